@@ -1,5 +1,6 @@
 -- Cells with two destinations, told by lists of destinations, and the first of them.
-use Rattle.std.proofs.Common.{◌≡◌, inl, inr, ◌↔◌, ◌<◌, ◌≤◌, ◌+◌, ℕ, Bool, true, false, IsTrue, List, [], ◌∷◌, length, slice_get, Option, Some, None, IsSome, IsSomeAnd}
+use Rattle.std.proofs.Common.{◌≡◌, inl, inr, ◌↔◌, ◌<◌, ◌≤◌, ◌+◌, ℕ, Bool, true, false, IsTrue, List, [], ◌∷◌, length, slice_get, Option, Some, None, IsSome}
+use Rattle.std.proofs.Common.{IsSomeAnd}
 use Rattle.std.proofs.Common.{refl, sym, ap, ◌∙◌, subst, arith}
 use Rattle.std.specs.Prelude.{option_map}
 use Rattle.std.specs.Bool.{OnTrue, OnFalse}
@@ -41,7 +42,8 @@ listed-two P (c ∷ d ∷ cells) listed many =
 two-listed : (P : CellId → Type 0) (cells : List CellId) → Lists P cells → HasTwo P → 1 < length cells
 two-listed P [] listed two = absurd (Contains-none two.one ((listed.members two.one).1 two.one_is))
 two-listed P (c ∷ []) listed two =
-    absurd (two.apart (Contains-one c two.one ((listed.members two.one).1 two.one_is) ∙ sym (Contains-one c two.other ((listed.members two.other).1 two.other_is))))
+    absurd (two.apart (Contains-one c two.one ((listed.members two.one).1 two.one_is) ∙ sym
+    (Contains-one c two.other ((listed.members two.other).1 two.other_is))))
 two-listed P (c ∷ d ∷ cells) listed two = omega arith
 
 -- ---- a cell with a field
@@ -57,7 +59,8 @@ module _ (types : List TypeEntry) (s : StoreMap) (f : FieldId) (c : CellId) wher
       Some (field.Pointer target along) ≡ option_map (λ (entry : FieldEntry). entry.kind) (field_at types f) → ⊥) → Forks types s f c → ⊥
   no-fork_of_kind other fork = by (field_at types f) other fork.to_one
     where
-      by : (e : Option FieldEntry) → ((target : TypeId) (along : Route) → Some (field.Pointer target along) ≡ option_map (λ (entry : FieldEntry). entry.kind) e → ⊥) →
+      by : (e : Option FieldEntry) → ((target : TypeId) (along : Route) → Some (field.Pointer target along) ≡ option_map
+          (λ (entry : FieldEntry). entry.kind) e → ⊥) →
           IsSomeAnd e (λ entry. EndsKind types s entry.kind c fork.one) → ⊥
       by None other ends = ends
       by (Some entry) other ends = no-route entry.kind (λ target along is. other target along (ap (λ k. Some k) (sym is))) fork.one ends
@@ -70,7 +73,8 @@ module _ (types : List TypeEntry) (s : StoreMap) (f : FieldId) (c : CellId) wher
     this : IsSomeAnd (field_at types f) (λ entry. entry.kind ≡ field.Pointer target along)
     this = by (field_at types f) at
       where
-        by : (e : Option FieldEntry) → Some kind ≡ option_map (λ (entry : FieldEntry). entry.kind) e → IsSomeAnd e (λ entry. entry.kind ≡ field.Pointer target along)
+        by : (e : Option FieldEntry) → Some kind ≡ option_map (λ (entry : FieldEntry). entry.kind) e → IsSomeAnd e
+            (λ entry. entry.kind ≡ field.Pointer target along)
         by None at = absurd (cc)
         by (Some entry) at = sym (same_Some kind entry.kind at) ∙ is
 

@@ -1,5 +1,6 @@
 -- The table with one data variable a type.
-use Rattle.std.proofs.Common.{◌≡◌, ◌<◌, ◌≤◌, ◌+◌, ℕ, zero, suc, List, [], ◌∷◌, ◌++◌, length, take, slice_get, Some, None, IsSomeAnd, refl, sym, ap, ◌∙◌, subst, arith}
+use Rattle.std.proofs.Common.{◌≡◌, ◌<◌, ◌≤◌, ◌+◌, ℕ, zero, suc, List, [], ◌∷◌, ◌++◌, length, take, slice_get, Some, None, IsSomeAnd, refl, sym, ap, ◌∙◌, subst}
+use Rattle.std.proofs.Common.{arith}
 use Rattle.std.specs.List.{AllByRecursion}
 use Rattle.std.specs.Option.{option_map}
 use Rattle.std.specs.Str.{bytes_eq}
@@ -97,7 +98,8 @@ one_each types = record {
   count = length-vars_from 0 types;
   each = λ i inside.
       let same : 0 + i ≡ i = omega arith in
-      subst (λ m. IsSomeAnd (slice_get (type_vars types) i) (λ (entry : VarEntry). entry.kind ≡ var.Data (record { 0 = m }))) same (vars_from-at 0 types i inside);
+      subst (λ m. IsSomeAnd (slice_get (type_vars types) i) (λ (entry : VarEntry). entry.kind ≡ var.Data (record { 0 = m }))) same
+      (vars_from-at 0 types i inside);
 }
 
 known-from : (types : List TypeEntry) (n : ℕ) (ts : List TypeEntry) → n + length ts ≤ length types →

@@ -1,7 +1,8 @@
 -- What a view stands for: the store after the events that are taken, where its cells stand in the tree of the store before
 -- them, and what its variables hold. (Klarlund and Schwartzbach 1993; Møller and Schwartzbach, PLDI 2001.) Events stand with
 -- the last one first.
-use Rattle.std.specs.Prelude.{◌≡◌, ◌↔◌, ℕ, ◌+◌, ◌<◌, Bool, true, false, IsTrue, List, [], ◌∷◌, length, slice_get, Contains, Option, Some, None, IsSome, IsSomeAnd, IfSome}
+use Rattle.std.specs.Prelude.{◌≡◌, ◌↔◌, ℕ, ◌+◌, ◌<◌, Bool, true, false, IsTrue, List, [], ◌∷◌, length, slice_get, Contains, Option, Some, None, IsSome}
+use Rattle.std.specs.Prelude.{IsSomeAnd, IfSome}
 use Rattle.gta_theory.specs.Assignments.{Position, Assignment, IsOnly}
 use Rattle.ws2s_core.specs.declared.track.Track.{Track}
 use Rattle.ws2s_forms.specs.Places.{slot_of}

@@ -79,7 +79,8 @@ two_above types sight next c =
 -- two data fields of one cell name c
 abbrev pub two_fields : List TypeEntry → Sight → ℕ → ℕ → FieldId → FieldId → Formula
 two_fields types sight next c f g =
-    ex1 next (and_list (suc next) (is_live types sight (suc next) next ∷ names_by_data types sight (suc next) f next c ∷ names_by_data types sight (suc next) g next c ∷ []))
+    ex1 next (and_list (suc next) (is_live types sight (suc next) next ∷ names_by_data types sight (suc next) f next c ∷ names_by_data types sight
+    (suc next) g next c ∷ []))
 
 -- those of one type
 abbrev pub field_pairs : List TypeEntry → Sight → ℕ → ℕ → TypeId → List Formula

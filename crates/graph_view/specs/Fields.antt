@@ -89,7 +89,8 @@ is_true types sight next f a = after next f a (truth next) (Sub (track a) (track
 -- before all events: the cell has the field, and b is its child, a live cell of the target type
 abbrev pub first_child : List TypeEntry → Sight → ℕ → FieldId → TypeId → ℕ → ℕ → Formula
 first_child types sight next f target a b =
-    and_list next (has types (at_first sight.slots) next f a ∷ child next (unwrap_or (child_number types f) 0) a b ∷ lives_in types (at_first sight.slots) next target b ∷ [])
+    and_list next (has types (at_first sight.slots) next f a ∷ child next (unwrap_or (child_number types f) 0) a b ∷ lives_in types (at_first sight.slots)
+    next target b ∷ [])
 
 -- the data field of the cell on track a names the cell on track b
 abbrev pub data_names : List TypeEntry → Sight → ℕ → FieldId → TypeId → ℕ → ℕ → Formula

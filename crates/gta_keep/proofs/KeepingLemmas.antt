@@ -1,5 +1,6 @@
 -- On keeping a copy of an automaton: what the shelf holds then, whatever falls out.
-use Rattle.std.proofs.Common.{◌≡◌, ℕ, ◌≤◌, ◌⊎◌, inl, inr, Bool, true, Option, Some, None, List, [], ◌∷◌, length, Contains, IsSome, refl, sym, ◌∙◌, ap, subst, arith}
+use Rattle.std.proofs.Common.{◌≡◌, ℕ, ◌≤◌, ◌⊎◌, inl, inr, Bool, true, Option, Some, None, List, [], ◌∷◌, length, Contains, IsSome, refl, sym, ◌∙◌, ap, subst}
+use Rattle.std.proofs.Common.{arith}
 use Rattle.lru.specs.LruCache.{LruCache, put_entries, displaced}
 use Rattle.bdd_nodes.specs.Shelf.{Contents, IsShelf, roots_of}
 use Rattle.bdd_nodes.specs.Changes.{DropsTable}
@@ -10,7 +11,8 @@ use Rattle.gta_core.proofs.AutoLemmas.{automaton_of-kept}
 use Rattle.ws2s_core.specs.declared.node.FormulaId.{FormulaId}
 use Rattle.gta_keep.specs.Holding.{Holds, HoldsBeside, IsCopy, IsKeptCopy, WasOrIsCopy, TakesIn, Passes, beside}
 use Rattle.gta_keep.proofs.HoldingLemmas.{kept-release, Holds-release}
-use Rattle.gta_keep.proofs.PassesLemmas.{Entries, KeepsTable-same, KeepsTable-both, Contains-beside, Contains-other, Passes-both, Passes-none, Passes-release, Passes-added, HoldsBeside-none, HoldsBeside-after}
+use Rattle.gta_keep.proofs.PassesLemmas.{Entries, KeepsTable-same, KeepsTable-both, Contains-beside, Contains-other, Passes-both, Passes-none, Passes-release}
+use Rattle.gta_keep.proofs.PassesLemmas.{Passes-added, HoldsBeside-none, HoldsBeside-after}
 use Rattle.gta_keep.proofs.KeptLemmas.{outs, put-there, put-entry, Holds-put}
 
 -- where nothing came, nothing is taken in

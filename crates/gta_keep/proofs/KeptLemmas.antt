@@ -1,5 +1,6 @@
 -- On what is kept: which automata are there after a use, a fall out, and a new one.
-use Rattle.std.proofs.Common.{◌≡◌, ℕ, ◌+◌, ◌-◌, ◌<◌, ◌≤◌, ◌==◌, ◌⊎◌, inl, inr, if◌then◌else◌, zero, suc, Bool, true, false, Option, Some, None, List, [], ◌∷◌, ◌++◌, take, length, Contains, IsSome, slice_get, option_map, refl, sym, ◌∙◌, ap, subst, arith}
+use Rattle.std.proofs.Common.{◌≡◌, ℕ, ◌+◌, ◌-◌, ◌<◌, ◌≤◌, ◌==◌, ◌⊎◌, inl, inr, if◌then◌else◌, zero, suc, Bool, true, false, Option, Some, None, List, [], ◌∷◌}
+use Rattle.std.proofs.Common.{◌++◌, take, length, Contains, IsSome, slice_get, option_map, refl, sym, ◌∙◌, ap, subst, arith}
 use Rattle.std.specs.Map.{lookup, lookup_entry, remove_entry}
 use Rattle.std.proofs.lemmas.Bool.{false≢true}
 use Rattle.std.proofs.lemmas.Option.{slice_get_within}
@@ -17,7 +18,8 @@ use Rattle.gta_core.specs.Changes.{AddsOneTable}
 use Rattle.gta_core.proofs.AutoLemmas.{past-none}
 use Rattle.ws2s_core.specs.declared.node.FormulaId.{FormulaId}
 use Rattle.gta_keep.specs.Holding.{times, Holds, HoldsBeside, IsNotKept, IsCopyOfKept, Passes, as_list, beside, kept_autos}
-use Rattle.gta_keep.proofs.PassesLemmas.{Entries, Contains-kept, Contains-entry, Contains-beside, Holds-order, Passes-none, Passes-order, Passes-both, Passes-beside, Passes-added, Passes-release, HoldsBeside-after}
+use Rattle.gta_keep.proofs.PassesLemmas.{Entries, Contains-kept, Contains-entry, Contains-beside, Holds-order, Passes-none, Passes-order, Passes-both}
+use Rattle.gta_keep.proofs.PassesLemmas.{Passes-beside, Passes-added, Passes-release, HoldsBeside-after}
 
 -- once where the automaton has the table
 abbrev pub once : AutoView → ℕ → ℕ

@@ -1,5 +1,6 @@
 -- On what a builder answers: what comes with an automaton that it made, and what stays where it made none.
-use Rattle.std.proofs.Common.{◌≡◌, ℕ, ◌≤◌, Result, Ok, Err, IfOk, OnErr, inl, inr, List, [], ◌∷◌, ◌++◌, Contains, IsSome, refl, ◌∙◌, ap, subst, arith, append-nil}
+use Rattle.std.proofs.Common.{◌≡◌, ℕ, ◌≤◌, Result, Ok, Err, IfOk, OnErr, inl, inr, List, [], ◌∷◌, ◌++◌, Contains, IsSome, refl, ◌∙◌, ap, subst, arith}
+use Rattle.std.proofs.Common.{append-nil}
 use Rattle.std.proofs.lemmas.List.Elements.{Contains-append_left, Contains-append_right, Contains-append_cases}
 use Rattle.bdd_nodes.specs.Shelf.{Contents, IsShelf, roots_of, limit_of}
 use Rattle.bdd_nodes.specs.Changes.{Keeps, SameTables, DropsTable, CountsHeld}
@@ -37,7 +38,8 @@ module _ (g : Spaces) where
         IfOk result (λ c. Passes g was new xs (c ∷ xs) before kept)
     built-ok (Ok c) auto registers =
         Passes-both g was old new xs xs (c ∷ xs) before kept kept first
-        (Passes-registers g old new c xs kept g (HoldsBeside-after g was old xs xs before kept first held) is_shelf keeps registers (λ others holds. auto) limit)
+        (Passes-registers g old new c xs kept g (HoldsBeside-after g was old xs xs before kept first held) is_shelf keeps registers (λ others holds. auto)
+        limit)
     built-ok (Err stop) auto registers = tt
 
   pub built-err : (was old new : Contents) (before kept : Entries) → Passes g was old [] [] before kept → IsShelf old → IsShelf new → Keeps old new →

@@ -11,7 +11,8 @@ use Rattle.gta_core.specs.Changes.{KeepsTable, RegistersTable, AddsOneTable}
 use Rattle.gta_core.proofs.AutoLemmas.{KeepsTable-grown, KeepsTable-moved}
 use Rattle.ws2s_core.specs.declared.node.FormulaId.{FormulaId}
 use Rattle.gta_keep.specs.Holding.{times, Holds, HoldsBeside, KeepsSome, Passes, beside, kept_autos}
-use Rattle.gta_keep.proofs.HoldingLemmas.{times-append, KeepsTable-joins, Holds-registered, Holds-same, Holds-release, kept-release, Holds-still, Holds-collected, Holds-registers}
+use Rattle.gta_keep.proofs.HoldingLemmas.{times-append, KeepsTable-joins, Holds-registered, Holds-same, Holds-release, kept-release, Holds-still}
+use Rattle.gta_keep.proofs.HoldingLemmas.{Holds-collected, Holds-registers}
 
 abbrev pub Entries : Type 0
 Entries = List (FormulaId × AutoView)

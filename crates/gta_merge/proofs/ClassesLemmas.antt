@@ -13,7 +13,8 @@ use Rattle.bdd_walk.specs.ManyLaws.{same_list}
 use Rattle.gta_theory.proofs.ListedLemmas.{slice_get-front, slice_get-last, slice_get-push}
 use Rattle.gta_merge.specs.declared.classes.Lines.{Lines}
 use Rattle.gta_merge.specs.Lines.{some_root}
-use Rattle.gta_merge.specs.Classes.{Line, ByLine, same_ref, class_for, IsLineStep, has, gets, IsStateStep, known, looks, HaveLikeRoots, AreToldApart, AreClassed}
+use Rattle.gta_merge.specs.Classes.{Line, ByLine, same_ref, class_for, IsLineStep, has, gets, IsStateStep, known, looks, HaveLikeRoots, AreToldApart}
+use Rattle.gta_merge.specs.Classes.{AreClassed}
 use Rattle.gta_merge.proofs.ListsLemmas.{map-some_root, map-same}
 
 -- the classes by the classes before

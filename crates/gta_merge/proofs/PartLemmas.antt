@@ -116,13 +116,15 @@ module _ (shelf : Contents) (a : AutoView) (auto : IsAuto (guide_of a) shelf a) 
   -- every state has a class
   pub many-rows : lefts ≤ length own.rows
   many-rows = elim (cases_lt (length own.rows) lefts) [
-    | inl less ↦ let w = rows-within own (length own.rows) 0 (placed (length own.rows) 0 less (some-state (right (guide_of a) s) (whole.guide.right_inside s inside))) in absurd (omega arith)
+    | inl less ↦ let w = rows-within own (length own.rows) 0
+        (placed (length own.rows) 0 less (some-state (right (guide_of a) s) (whole.guide.right_inside s inside))) in absurd (omega arith)
     | inr all ↦ all
   ]
 
   pub many-columns : rights ≤ length own.columns
   many-columns = elim (cases_lt (length own.columns) rights) [
-    | inl less ↦ let w = columns-within own 0 (length own.columns) (placed 0 (length own.columns) (some-state (left (guide_of a) s) (whole.guide.left_inside s inside)) less) in
+    | inl less ↦ let w = columns-within own 0 (length own.columns)
+        (placed 0 (length own.columns) (some-state (left (guide_of a) s) (whole.guide.left_inside s inside)) less) in
         absurd (omega arith)
     | inr all ↦ all
   ]

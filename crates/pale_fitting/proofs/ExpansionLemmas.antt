@@ -341,7 +341,8 @@ module _ (types : List TypeEntry) where
 
   -- what fits among variables and predicates that fit still fits with these put in
   pub expansion-fits : (vars : List VarEntry) (preds : List PredDef) (sorts : List (List Sort)) (a : Assertion) →
-      PredsFit types (reverse preds) (reverse sorts) → FitsIn types a (record { vars = vars; bound = []; params = []; preds = sorts }) → AssertionFits types vars (expansion preds a)
+      PredsFit types (reverse preds) (reverse sorts) → FitsIn types a (record { vars = vars; bound = []; params = []; preds = sorts }) → AssertionFits
+      types vars (expansion preds a)
   expansion-fits vars preds sorts a fit fits =
       bodies-fit types (expanded_bodies (reverse preds)) sorts
       (λ k own at. known-bodies (reverse preds) (reverse sorts) fit k own (ap (λ (xs : List (List Sort)). slice_get xs k) (reverse-reverse sorts) ∙ at))

@@ -1,5 +1,6 @@
 -- What `check` has written between one report and the next.
-use Rattle.std.proofs.Common.{◌≡◌, ◌∙◌, inl, inr, ◌+◌, ◌<◌, ◌≤◌, ◌++◌, ℕ, suc, true, false, List, [], ◌∷◌, length, take, drop, get_or, Option, refl, sym, ap, subst, arith}
+use Rattle.std.proofs.Common.{◌≡◌, ◌∙◌, inl, inr, ◌+◌, ◌<◌, ◌≤◌, ◌++◌, ℕ, suc, true, false, List, [], ◌∷◌, length, take, drop, get_or, Option, refl, sym, ap}
+use Rattle.std.proofs.Common.{subst, arith}
 use Rattle.std.proofs.Common.{append-nil, take-append-drop}
 use Rattle.std.specs.Prelude.{All}
 use Rattle.std.specs.List.{list_all}
@@ -85,7 +86,8 @@ module _ (limit : ℕ) (program : TypedProgram) (triples : List Triple) (fits : 
   fields_start = record { output = []; allowed = no_field; written = nothing_written a }
 
   pub fields_next : (i : ℕ) (f : FieldId) (b c : Option (List ℕ)) (ways : List FieldWay) (way : FieldWay) → i < length fs → f ≡ get_or fs i f →
-      FieldsWrote limit program.types a i b ways → Wrote (ReportsField limit program.types f) b c way → FieldsWrote limit program.types a (i + 1) c (ways ++ way ∷ [])
+      FieldsWrote limit program.types a i b ways → Wrote (ReportsField limit program.types f) b c way → FieldsWrote limit program.types a (i + 1) c
+      (ways ++ way ∷ [])
   fields_next i f b c ways way inside is before next = record {
     output = before.output ++ next.output;
     allowed = subst (λ (gs : List FieldId). ReportsFields limit program.types gs (before.output ++ next.output) (ways ++ way ∷ []))
@@ -99,12 +101,14 @@ module _ (limit : ℕ) (program : TypedProgram) (triples : List Triple) (fits : 
   fields_can_end i lines ways reports = fields-end limit program triples fits own (take i fs) (drop i fs) (sym (take-append-drop i fs)) lines ways reports
 
   -- behind the report of a field
-  pub fields_begin : (i : ℕ) (b : Option (List ℕ)) (ways : List FieldWay) → FieldsWrote limit program.types a i b ways → WroteAtMost (ReportsProgram limit program triples) a b
+  pub fields_begin : (i : ℕ) (b : Option (List ℕ)) (ways : List FieldWay) → FieldsWrote limit program.types a i b ways → WroteAtMost
+      (ReportsProgram limit program triples) a b
   fields_begin i b ways before =
       whole_begins (ReportsProgram limit program triples) a b before.output before.written (fields_can_end i before.output ways before.allowed)
 
   -- in one
-  pub field_begins : (i : ℕ) (f : FieldId) (b c : Option (List ℕ)) (ways : List FieldWay) → i < length fs → f ≡ get_or fs i f → FieldsWrote limit program.types a i b ways →
+  pub field_begins : (i : ℕ) (f : FieldId) (b c : Option (List ℕ)) (ways : List FieldWay) → i < length fs → f ≡ get_or fs i f → FieldsWrote limit
+      program.types a i b ways →
       WroteAtMost (ReportsField limit program.types f) b c → WroteAtMost (ReportsProgram limit program triples) a c
   field_begins i f b c ways inside is before (inl same) =
       subst (λ (d : Option (List ℕ)). WroteAtMost (ReportsProgram limit program triples) a d) (sym same) (fields_begin i b ways before)
@@ -194,7 +198,8 @@ module _ (limit : ℕ) (program : TypedProgram) (triples : List Triple) (fits : 
       triples-end limit program triples fits own every (take i triples) (drop i triples) (sym (take-append-drop i triples)) lines ways reports
 
   -- behind the report of a triple
-  pub triples_begin : (i : ℕ) (b : Option (List ℕ)) (ways : List TripleWay) → TriplesWrote limit program triples a i b ways → WroteAtMost (ReportsAll limit program triples) a b
+  pub triples_begin : (i : ℕ) (b : Option (List ℕ)) (ways : List TripleWay) → TriplesWrote limit program triples a i b ways → WroteAtMost
+      (ReportsAll limit program triples) a b
   triples_begin i b ways before =
       whole_begins (ReportsAll limit program triples) a b before.output before.written (triples_can_end i before.output ways before.allowed)
 

@@ -11,8 +11,8 @@ ghost use Rattle.program_judge.specs.Reports as reports;
 ghost use Rattle.program_judge.specs.Reports.{ReportsField, ReportsFields, ReportsTriple, ReportsTriples, ReportsAll, ReportsProgram};
 
 use bdd_nodes::Shelf;
-use pale_io::{Sink, WriteStop, write_all};
 use hoare_split::WholeProgram;
+use pale_io::{Sink, WriteStop, write_all};
 use pale_types::Typed;
 use program_judge::{FieldWay, TripleWay, field_report, pointer_fields, triple_report};
 use std::alloc::{AllocError, Global};

@@ -16,10 +16,10 @@ use crate::check::status_of;
 use crate::check_parts::{check_fields, check_triples};
 use crate::nowhere::Nowhere;
 use bdd_nodes::Shelf;
+use hoare_split::{WholeProgram, read_program};
 use pale_generator::gen_program;
 use pale_io::{Sink, WriteStop};
 use pale_modes::{Status, push_number, refuse, say};
-use hoare_split::{WholeProgram, read_program};
 use program_judge::{
     Ending, TripleWay, are_functional, invalid_count, judged_ending, limit_count, stopped_ending,
     valid_count,

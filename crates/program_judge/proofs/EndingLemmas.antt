@@ -1,5 +1,6 @@
 -- Whatever was told so far of fields or of triples, more can be told until the end.
-use Rattle.std.proofs.Common.{◌≡◌, ◌⊎◌, inl, inr, ◌+◌, ◌<◌, ◌++◌, ℕ, suc, Bool, true, false, List, [], ◌∷◌, length, slice_get, Some, Contains, refl, sym, ap, subst, ◌∙◌, arith, append_assoc, length-append}
+use Rattle.std.proofs.Common.{◌≡◌, ◌⊎◌, inl, inr, ◌+◌, ◌<◌, ◌++◌, ℕ, suc, Bool, true, false, List, [], ◌∷◌, length, slice_get, Some, Contains, refl, sym, ap}
+use Rattle.std.proofs.Common.{subst, ◌∙◌, arith, append_assoc, length-append}
 use Rattle.std.specs.Prelude.{All}
 use Rattle.std.specs.List.{list_all}
 use Rattle.std.proofs.lemmas.Bool.{false≢true}
@@ -31,7 +32,8 @@ use Rattle.program_judge.specs.declared.ways.TripleWay.TheVariants as tripled
 use Rattle.program_judge.specs.Lines.{ambiguous_line, stopped_line, valid_line, invalid_line}
 use Rattle.program_judge.specs.Reports.{is_pointer, pointer_fields, is_functional, stopped_ending, judged_ending, totals_of, CanEnd}
 use Rattle.program_judge.specs.Reports.{ReportsField, functional, ambiguous, field_at_limit, ReportsFields, no_field, next_field}
-use Rattle.program_judge.specs.Reports.{ReportsTriple, valid, invalid, ReportsTriples, no_triple, next_triple, ReportsAll, totalled, ReportsProgram, stopped, judged}
+use Rattle.program_judge.specs.Reports.{ReportsTriple, valid, invalid, ReportsTriples, no_triple, next_triple, ReportsAll, totalled, ReportsProgram, stopped}
+use Rattle.program_judge.specs.Reports.{judged}
 use Rattle.program_judge.proofs.FieldsLemmas.{field-somehow}
 use Rattle.program_judge.proofs.StandingLemmas.{can-be-judged-by}
 use Rattle.program_judge.proofs.JoinedLemmas.{fields-joined, triples-joined}
@@ -44,7 +46,8 @@ way-functional limit types f _ _ (functional is) good = is
 way-functional limit types f _ _ (ambiguous s c least) good = absurd (false≢true good)
 way-functional limit types f _ _ (field_at_limit over) good = absurd (false≢true good)
 
-first-good : (way : FieldWay) (ways : List FieldWay) → list_all is_functional (way ∷ ways) ≡ true → (is_functional way ≡ true) × (list_all is_functional ways ≡ true)
+first-good : (way : FieldWay) (ways : List FieldWay) → list_all is_functional (way ∷ ways) ≡ true → (is_functional way ≡ true) ×
+    (list_all is_functional ways ≡ true)
 first-good fielded.Functional ways good = (refl, good)
 first-good fielded.Ambiguous ways good = absurd (false≢true good)
 first-good fielded.Limit ways good = absurd (false≢true good)
@@ -65,7 +68,8 @@ pointer-kind (field.Data target) pointer = absurd pointer
 pointer-kind (field.Pointer target along) pointer = refl
 
 -- where all pointer fields were told to be so, they are
-pub all-functional : (limit : ℕ) (types : List TypeEntry) (lines : List ℕ) (ways : List FieldWay) → ReportsFields limit types (pointer_fields types) lines ways →
+pub all-functional : (limit : ℕ) (types : List TypeEntry) (lines : List ℕ) (ways : List FieldWay) → ReportsFields limit types (pointer_fields types) lines
+    ways →
     list_all is_functional ways ≡ true → AreFunctional types
 all-functional limit types lines ways reports good f pointer =
     let (entry, there, kind) = IsSomeAnd-at (field_at types f) (λ (e : FieldEntry). IsPointer e.kind) pointer in
@@ -106,7 +110,8 @@ module _ (limit : ℕ) (program : TypedProgram) (fits : ProgramFits program) whe
           )
         ]
 
-    triples-told : (k : ℕ) (ts : List Triple) → All (FitsProgram program) ts → (lines : List ℕ) × (ways : List TripleWay) × ReportsTriples limit program k ts lines ways
+    triples-told : (k : ℕ) (ts : List Triple) → All (FitsProgram program) ts → (lines : List ℕ) × (ways : List TripleWay) × ReportsTriples limit program k
+        ts lines ways
     triples-told k [] own = ([], [], no_triple k)
     triples-told k (t ∷ ts) own =
         let first : FitsProgram program t = All-head (FitsProgram program) t ts own in

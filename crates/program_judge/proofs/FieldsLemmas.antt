@@ -1,5 +1,6 @@
 -- Every pointer field is judged somehow: it is functional, or a least backbone with its first fork shows that it isn't.
-use Rattle.std.proofs.Common.{◌≡◌, ◌⊎◌, inl, inr, ◌+◌, ◌<◌, ℕ, zero, suc, List, [], ◌∷◌, length, slice_get, Option, Some, None, IsSome, refl, sym, ap, ◌∙◌, subst, arith}
+use Rattle.std.proofs.Common.{◌≡◌, ◌⊎◌, inl, inr, ◌+◌, ◌<◌, ℕ, zero, suc, List, [], ◌∷◌, length, slice_get, Option, Some, None, IsSome, refl, sym, ap, ◌∙◌}
+use Rattle.std.proofs.Common.{subst, arith}
 use Rattle.std.specs.FinMap.{keys}
 use Rattle.std.proofs.lemmas.Bool.{cases_lt, false≢true}
 use Rattle.gta_theory.specs.Assignments.{Assignment, IsFinite}
@@ -66,7 +67,8 @@ listed-two P (c ∷ d ∷ cells) listed many =
 two-listed : (P : CellId → Type 0) (cells : List CellId) → Lists P cells → HasTwo P → 1 < length cells
 two-listed P [] listed two = absurd (Contains-none two.one ((listed.members two.one).1 two.one_is))
 two-listed P (c ∷ []) listed two =
-    absurd (two.apart (Contains-one c two.one ((listed.members two.one).1 two.one_is) ∙ sym (Contains-one c two.other ((listed.members two.other).1 two.other_is))))
+    absurd (two.apart (Contains-one c two.one ((listed.members two.one).1 two.one_is) ∙ sym
+    (Contains-one c two.other ((listed.members two.other).1 two.other_is))))
 two-listed P (c ∷ d ∷ cells) listed two = omega arith
 
 module _ (types : List TypeEntry) (s : StoreMap) (f : FieldId) where

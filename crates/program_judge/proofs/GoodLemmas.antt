@@ -10,7 +10,8 @@ use Rattle.program_judge.specs.declared.ways.TripleWay.{TripleWay}
 use Rattle.program_judge.specs.declared.ways.TripleWay.TheVariants as tripled
 use Rattle.program_judge.specs.declared.ways.Ending.{Ending}
 use Rattle.program_judge.specs.declared.ways.Ending.TheVariants as ending
-use Rattle.program_judge.specs.Reports.{ReportsTriple, valid, invalid, triple_at_limit, ReportsTriples, no_triple, next_triple, ReportsAll, totalled, ReportsProgram, stopped, judged}
+use Rattle.program_judge.specs.Reports.{ReportsTriple, valid, invalid, triple_at_limit, ReportsTriples, no_triple, next_triple, ReportsAll, totalled}
+use Rattle.program_judge.specs.Reports.{ReportsProgram, stopped, judged}
 use Rattle.program_judge.specs.Reports.{is_valid, is_invalid, is_at_limit, is_ambiguous}
 
 -- where none is invalid and none at the limit, all are valid

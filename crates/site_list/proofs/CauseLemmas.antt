@@ -117,7 +117,8 @@ branch_made types cuts c xs line b taken other x y s0 s1 s2 s3 s4 same is x_is y
     ∙ append_assoc (s0 ++ items_sites types xs) (map (site_at line) (cond_causes types b)) (code_sites types cuts x ++ code_sites types cuts y)
     ∙ append_assoc s0 (items_sites types xs) (map (site_at line) (cond_causes types b) ++ (code_sites types cuts x ++ code_sites types cuts y))
     ∙ ap₂
-    (λ (u v : Code). s0 ++ (items_sites types xs ++ (map (site_at line) (cond_causes types b) ++ (code_sites types cuts u ++ code_sites types cuts v)))) x_is y_is
+    (λ (u v : Code). s0 ++ (items_sites types xs ++ (map (site_at line) (cond_causes types b) ++ (code_sites types cuts u ++ code_sites types cuts v))))
+    x_is y_is
     ∙ ap₂ (λ (us : List Item) (ss : List Site). s0 ++ (items_sites types us ++ ss)) same
     (sym (ap (tail_sites types cuts) is ∙ sites-Branch types cuts line b taken other))
     ∙ ap (λ s. s0 ++ s) (sym (sites-code types cuts c))

@@ -85,7 +85,8 @@ module _ (types : List TypeEntry) (vars : List VarEntry) (s : StoreMap) where
       (λ h. record { var = record { 0 = h.0 }; cell = (h.2).0; points = ((h.2).1).0; wrong_side = ((h.2).1).1 })
       (λ h. ((h.var).0, within vars (h.var).0 (IsSome-and (var_at vars h.var) _ (h.points).pointer), (h.cell, (h.points, h.wrong_side))))
       (decided_below (λ n. Hits (record { 0 = n }) (IsWrongSide part inside (record { 0 = n })))
-      (λ n. hit (record { 0 = n }) (IsWrongSide part inside (record { 0 = n })) (wrong_side part inside (record { 0 = n })) (var_value s (record { 0 = n })) refl)
+      (λ n. hit (record { 0 = n }) (IsWrongSide part inside (record { 0 = n })) (wrong_side part inside (record { 0 = n }))
+      (var_value s (record { 0 = n })) refl)
       (length vars))
 
   -- ---- the first cause

@@ -1,5 +1,6 @@
 -- The spaces of slots and children under a layout's guide.
-use Rattle.std.proofs.Common.{◌≡◌, ℕ, zero, suc, ◌+◌, ◌<◌, Bool, false, cond, eqb, List, [], ◌∷◌, ◌++◌, length, map, take, slice_get, unwrap_or, Option, Some, None, refl, sym, ap, ◌∙◌, zero-add, arith}
+use Rattle.std.proofs.Common.{◌≡◌, ℕ, zero, suc, ◌+◌, ◌<◌, Bool, false, cond, eqb, List, [], ◌∷◌, ◌++◌, length, map, take, slice_get, unwrap_or, Option, Some}
+use Rattle.std.proofs.Common.{None, refl, sym, ap, ◌∙◌, zero-add, arith}
 use Rattle.std.specs.Prelude.{count_by, flat_map}
 use Rattle.std.specs.Option.{option_map_or}
 use Rattle.std.proofs.Math.Dec.{eqb-suc-zero}
@@ -20,7 +21,8 @@ use Rattle.ws2s_forms.specs.Places.{ones, slot_of}
 use Rattle.tree_encode.specs.declared.counting.Counted.TheVariants.{Children}
 use Rattle.tree_encode.specs.Counting.{is_counted, rank, is_data_kind, is_data_var}
 use Rattle.tree_encode.specs.Tracks.{slot_of_var, child_number}
-use Rattle.tree_encode.specs.Spaces.{row_length, row_of_some, row, slot_types, child_types, spaces_in, first_space, rows_after, types_start, guide_of, var_targets, field_targets}
+use Rattle.tree_encode.specs.Spaces.{row_length, row_of_some, row, slot_types, child_types, spaces_in, first_space, rows_after, types_start, guide_of}
+use Rattle.tree_encode.specs.Spaces.{var_targets, field_targets}
 use Rattle.tree_encode.proofs.SpacesLemmas.{row-some, length-row}
 use Rattle.tree_encode.proofs.IndexLemmas.{field-sizes}
 use Rattle.tree_encode.proofs.TracksLemmas.{in_first, in_second, mapped, cond-some, and_then-some}

@@ -1,5 +1,6 @@
 -- One step of each loop that makes spaces.
-use Rattle.std.proofs.Common.{◌≡◌, ℕ, suc, ◌+◌, ◌<◌, cond, eqb, inl, inr, List, [], ◌∷◌, ◌++◌, length, map, drop, slice_get, get_or, Some, refl, sym, ap, ◌∙◌, append_assoc, length-append, length-drop, drop-cons, arith}
+use Rattle.std.proofs.Common.{◌≡◌, ℕ, suc, ◌+◌, ◌<◌, cond, eqb, inl, inr, List, [], ◌∷◌, ◌++◌, length, map, drop, slice_get, get_or, Some, refl, sym, ap, ◌∙◌}
+use Rattle.std.proofs.Common.{append_assoc, length-append, length-drop, drop-cons, arith}
 use Rattle.std.proofs.Math.Dec.{eqb-suc-zero}
 use Rattle.std.proofs.lemmas.List.{length-map}
 use Rattle.std.specs.Prelude.{flat_map}
@@ -8,7 +9,8 @@ use Rattle.std.proofs.lemmas.Option.{slice_get_cases, slice_get_within, get_or_f
 use Rattle.gta_theory.specs.Guides.{Spaces}
 use Rattle.store_core.specs.declared.ids.VariantId.{VariantId}
 use Rattle.store_core.specs.Tables.{TypeEntry, VarEntry, fields_of}
-use Rattle.tree_encode.specs.Spaces.{row_length, row_of_some, row, field_targets, slot_types, child_types, spaces_in, first_space, rows_after, types_start, guide_of}
+use Rattle.tree_encode.specs.Spaces.{row_length, row_of_some, row, field_targets, slot_types, child_types, spaces_in, first_space, rows_after, types_start}
+use Rattle.tree_encode.specs.Spaces.{guide_of}
 use Rattle.tree_encode.proofs.SpacesLemmas.{length-row, closed}
 
 -- ---- the spaces of a row

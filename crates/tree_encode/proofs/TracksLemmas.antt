@@ -1,5 +1,6 @@
 -- Each number of a track is its place in the list of the tracks.
-use Rattle.std.proofs.Common.{◌≡◌, ℕ, zero, suc, ◌+◌, ◌<◌, Bool, true, false, cond, nat_lt, inl, inr, List, [], ◌∷◌, ◌++◌, length, map, take, slice_get, Option, Some, None, refl, sym, ap, ◌∙◌, subst, length-append, zero-add, arith}
+use Rattle.std.proofs.Common.{◌≡◌, ℕ, zero, suc, ◌+◌, ◌<◌, Bool, true, false, cond, nat_lt, inl, inr, List, [], ◌∷◌, ◌++◌, length, map, take, slice_get, Option}
+use Rattle.std.proofs.Common.{Some, None, refl, sym, ap, ◌∙◌, subst, length-append, zero-add, arith}
 use Rattle.std.specs.Prelude.{count_by}
 use Rattle.std.specs.Option.{option_map_or, option_and_then}
 use Rattle.std.proofs.lemmas.Bool.{ltb-true}
@@ -13,7 +14,8 @@ use Rattle.store_core.specs.declared.ids.VarId.{VarId}
 use Rattle.store_core.specs.Tables.{TypeEntry, FieldEntry, VarEntry, count_of_variants, variant_count, fields_of}
 use Rattle.tree_encode.specs.declared.counting.Counted.TheVariants.{Bools}
 use Rattle.tree_encode.specs.Counting.{is_counted, counted_in, rank, variants_in, bools_in}
-use Rattle.tree_encode.specs.Tracks.{TrackUse, of_variant, of_bool, of_var, variants_at, variants_from, bools_at, bools_from, vars_from, tracks_of, track_count, track_at, variant_track, bool_track, var_track}
+use Rattle.tree_encode.specs.Tracks.{TrackUse, of_variant, of_bool, of_var, variants_at, variants_from, bools_at, bools_from, vars_from, tracks_of, track_count}
+use Rattle.tree_encode.specs.Tracks.{track_at, variant_track, bool_track, var_track}
 
 -- ---- two lists, one after the other
 

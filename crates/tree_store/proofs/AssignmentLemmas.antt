@@ -50,7 +50,8 @@ no_truth cells b e = cc
 one_truth : (b c : Bool) → ◌≡◌ {A = Option Value} (Some (value.Bool b)) (Some (value.Bool c)) → b ≡ c
 one_truth b c e = cc
 
-module _ (types : List TypeEntry) (vars : List VarEntry) (a : Assignment) (cells : List Standing) (lays : LaysOut types vars a) (are : AreCells types a cells) where
+module _ (types : List TypeEntry) (vars : List VarEntry) (a : Assignment) (cells : List Standing) (lays : LaysOut types vars a)
+    (are : AreCells types a cells) where
   abbrev s : StoreMap
   s = decoded types vars a cells
 
@@ -63,7 +64,8 @@ module _ (types : List TypeEntry) (vars : List VarEntry) (a : Assignment) (cells
       inr (
         numbered (1 + found.0),
         standing_placed types vars a cells lays are found.0 x found.1,
-        entry-some (λ (e : CellEntry). e.variant ≡ v) (cell_of s (numbered (1 + found.0))) (cell_in types a cells x) (cell_here types vars a cells found.0 x found.1) refl,
+        entry-some (λ (e : CellEntry). e.variant ≡ v) (cell_of s (numbered (1 + found.0))) (cell_in types a cells x)
+            (cell_here types vars a cells found.0 x found.1) refl,
       )
 
   on_variant : (v : VariantId) (t : Track) (p : Position) → variant_track types v ≡ Some t → IsOn types vars s (of_variant v) p → IsTrue (a t.0 p)
@@ -99,7 +101,8 @@ module _ (types : List TypeEntry) (vars : List VarEntry) (a : Assignment) (cells
             ∙ ap (λ b. Some (value.Bool b)) on,
       )
 
-  truth_of : (f : FieldId) (t : Track) (p : Position) (kind : FieldKind) → bool_track types f ≡ Some t → value.Bool true ≡ field_in types a cells p f kind → a t.0 p ≡ true
+  truth_of : (f : FieldId) (t : Track) (p : Position) (kind : FieldKind) → bool_track types f ≡ Some t → value.Bool true ≡ field_in types a cells p f kind
+      → a t.0 p ≡ true
   truth_of f t p field.Bool is e =
       one_truth (a t.0 p) true (ap (λ o. Some (value.Bool (is_on a o p))) (sym is) ∙ ap Some (sym e))
   truth_of f t p (field.Data ty) is e = absurd (not_truth _ true (ap Some (sym e)))
@@ -121,7 +124,8 @@ module _ (types : List TypeEntry) (vars : List VarEntry) (a : Assignment) (cells
   -- ---- variables
 
   -- a cell that is found is the one at the position
-  found_on : (track : Option Track) (t : Track) (c : CellId) (p : Position) → track ≡ Some t → IsPlaced types vars s c p → IsFoundAt (is_on a track) 1 cells c → IsTrue (a t.0 p)
+  found_on : (track : Option Track) (t : Track) (c : CellId) (p : Position) → track ≡ Some t → IsPlaced types vars s c p → IsFoundAt (is_on a track) 1
+      cells c → IsTrue (a t.0 p)
   found_on track t c p is placed found =
       let at = placed_at types vars a cells lays are c p placed in
       let same : found.cell ≡ at.cell = one_standing types vars a cells lays are found.place at.place found.cell at.cell found.at at.at
@@ -176,7 +180,8 @@ module _ (types : List TypeEntry) (vars : List VarEntry) (a : Assignment) (cells
         (alone y.at (subst (λ o. is_on a o y.at ≡ true) is on) ∙ sym h.position)),
   )
 
-  var_on : (track : Option Track) (t : Track) (p : Position) → track ≡ Some t → (slot : ℕ) (kind : VarKind) → VarLaysOut types a slot t.0 kind → IsTrue (a t.0 p) →
+  var_on : (track : Option Track) (t : Track) (p : Position) → track ≡ Some t → (slot : ℕ) (kind : VarKind) → VarLaysOut types a slot t.0 kind → IsTrue
+      (a t.0 p) →
       VarOn track p kind
   unfolding VarOn
   var_on track t p is slot var.Bool laid on =
@@ -200,14 +205,16 @@ module _ (types : List TypeEntry) (vars : List VarEntry) (a : Assignment) (cells
   var_entry v t is = present vars v.0 (ltb-true v.0 (length vars) (cond-some _ _ t is).0)
 
   -- in both forms
-  as_on : (v : VarId) (p : Position) (entry : VarEntry) → var_at vars v ≡ Some entry → VarOn (var_track types vars v) p entry.kind → IsOn types vars s (of_var v) p
+  as_on : (v : VarId) (p : Position) (entry : VarEntry) → var_at vars v ≡ Some entry → VarOn (var_track types vars v) p entry.kind → IsOn types vars s
+      (of_var v) p
   unfolding VarOn
   as_on v p entry there h = elim h [
     | inl root ↦ inl (root.0, var_here types vars a cells v entry there ∙ root.1)
     | inr cell ↦ inr (cell.0, cell.1, entry-some (λ x. NamesCell x cell.0) (var_value s v) _ (var_here types vars a cells v entry there) cell.2)
   ]
 
-  of_on : (v : VarId) (p : Position) (entry : VarEntry) → var_at vars v ≡ Some entry → IsOn types vars s (of_var v) p → VarOn (var_track types vars v) p entry.kind
+  of_on : (v : VarId) (p : Position) (entry : VarEntry) → var_at vars v ≡ Some entry → IsOn types vars s (of_var v) p → VarOn (var_track types vars v) p
+      entry.kind
   unfolding VarOn
   of_on v p entry there h = elim h [
     | inl root ↦ inl (root.0, sym (var_here types vars a cells v entry there) ∙ root.1)

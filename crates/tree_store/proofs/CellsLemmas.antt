@@ -68,7 +68,8 @@ pub record IsFoundAt (test : Position → Bool) (n : ℕ) (cells : List Standing
   pub is : test cell.at ≡ true
   pub number : c.0 ≡ n + place
 
-found_later : (test : Position → Bool) (n : ℕ) (x : Standing) (cells : List Standing) (c : CellId) → IsFoundAt test (suc n) cells c → IsFoundAt test n (x ∷ cells) c
+found_later : (test : Position → Bool) (n : ℕ) (x : Standing) (cells : List Standing) (c : CellId) → IsFoundAt test (suc n) cells c → IsFoundAt test n
+    (x ∷ cells) c
 found_later test n x cells c h = record { place = suc h.place; cell = h.cell; at = h.at; is = h.is; number = h.number ∙ later n h.place }
 
 pub first_found : (test : Position → Bool) (n : ℕ) (cells : List Standing) (c : CellId) → first_where test n cells ≡ Some c → IsFoundAt test n cells c
@@ -77,7 +78,14 @@ first_found test n (x ∷ cells) c e = by (λ k. first_found test (suc n) cells 
   where
     by : (first_where test (suc n) cells ≡ Some c → IsFoundAt test (suc n) cells c) → (b : Bool) → test x.at ≡ b →
         cond b (Some (numbered n)) (first_where test (suc n) cells) ≡ Some c → IsFoundAt test n (x ∷ cells) c
-    by rest true is e = record { place = 0; cell = x; at = refl; is = is; number = let same : c.0 ≡ n = sym (ap (λ (d : CellId). d.0) (same_Some (numbered n) c e)) in omega arith }
+    by rest true is e = record {
+      place = 0;
+      cell = x;
+      at = refl;
+      is = is;
+      number = let same : c.0 ≡ n = sym
+          (ap (λ (d : CellId). d.0) (same_Some (numbered n) c e)) in omega arith;
+    }
     by rest false is e = found_later test n x cells c (rest e)
 
 -- where there is one alone, it is the first
@@ -100,7 +108,8 @@ pub all_found : (test : Position → Bool) (n : ℕ) (cells : List Standing) (c 
 all_found test n [] c h = absurd (Contains-none c h)
 all_found test n (x ∷ cells) c h = by (λ k. all_found test (suc n) cells c k) (test x.at) refl h
   where
-    by : (Contains (all_where test (suc n) cells) c → IsFoundAt test (suc n) cells c) → (b : Bool) → test x.at ≡ b → Contains (cond b (numbered n ∷ all_where test (suc n) cells) (all_where test (suc n) cells)) c → IsFoundAt test n (x ∷ cells) c
+    by : (Contains (all_where test (suc n) cells) c → IsFoundAt test (suc n) cells c) → (b : Bool) → test x.at ≡ b → Contains
+        (cond b (numbered n ∷ all_where test (suc n) cells) (all_where test (suc n) cells)) c → IsFoundAt test n (x ∷ cells) c
     by rest true is h = elim (Contains-cases (numbered n) (all_where test (suc n) cells) c h) [
       | inl here ↦ record { place = 0; cell = x; at = refl; is = is; number = let same : c.0 ≡ n = ap (λ (d : CellId). d.0) here in omega arith }
       | inr there ↦ found_later test n x cells c (rest there)

@@ -1,5 +1,6 @@
 -- Where the cells of the decoded store stand.
-use Rattle.std.proofs.Common.{◌≡◌, ℕ, zero, suc, ◌+◌, ◌<◌, Bool, true, false, cond, IsTrue, inl, inr, List, [], ◌∷◌, ◌++◌, length, slice_get, take, unwrap_or, Option, Some, None, IsSomeAnd}
+use Rattle.std.proofs.Common.{◌≡◌, ℕ, zero, suc, ◌+◌, ◌<◌, Bool, true, false, cond, IsTrue, inl, inr, List, [], ◌∷◌, ◌++◌, length, slice_get, take, unwrap_or}
+use Rattle.std.proofs.Common.{Option, Some, None, IsSomeAnd}
 use Rattle.std.proofs.Common.{refl, sym, ap, ◌∙◌, subst, arith, ◌&&◌}
 use Rattle.std.specs.Prelude.{count_by, is_some}
 use Rattle.std.specs.Option.{option_and_then, option_map_or}
@@ -70,7 +71,8 @@ and_second true y e = e
 and_second false y e = cc
 
 -- data fields of a type with one number are one
-pub field_one : (types : List TypeEntry) (f g : FieldId) (one other : FieldEntry) (ty uy : TypeId) (j : ℕ) → field_at types f ≡ Some one → one.kind ≡ field.Data ty →
+pub field_one : (types : List TypeEntry) (f g : FieldId) (one other : FieldEntry) (ty uy : TypeId) (j : ℕ) → field_at types f ≡ Some one → one.kind ≡
+    field.Data ty →
     field_at types g ≡ Some other → other.kind ≡ field.Data uy → f.ty ≡ g.ty → child_number types f ≡ Some j → child_number types g ≡ Some j → f ≡ g
 field_one types f g one other ty uy j at kind found sort same number also =
     let ranks : rank Children types f ≡ rank Children types g =
@@ -138,7 +140,8 @@ pub record ChildAt (types : List TypeEntry) (cells : List Standing) (f : FieldId
   pub along_is : child_number types f ≡ Some along
   pub position : to.at ≡ child_of along cell.at
 
-module _ (types : List TypeEntry) (vars : List VarEntry) (a : Assignment) (cells : List Standing) (lays : LaysOut types vars a) (are : AreCells types a cells) where
+module _ (types : List TypeEntry) (vars : List VarEntry) (a : Assignment) (cells : List Standing) (lays : LaysOut types vars a)
+    (are : AreCells types a cells) where
   abbrev s : StoreMap
   s = decoded types vars a cells
 
@@ -174,7 +177,8 @@ module _ (types : List TypeEntry) (vars : List VarEntry) (a : Assignment) (cells
       ap (λ o. Some (value.Cell (first_where (is_on a o) 1 cells))) (sym is)
       ∙ ap (λ k. Some (var_in a cells (var_track types vars v) k)) (sym kind) ∙ sym (var_here types vars a cells v entry there) ∙ h.value in
       let found = first_found (is_on a (Some t)) 1 cells c (one_reference _ (Some c) held) in
-      let laid : VarLaysOut types a (unwrap_or (slot_of_var vars v) 0) t.0 (var.Data ty) = subst (VarLaysOut types a (unwrap_or (slot_of_var vars v) 0) t.0) kind (var_lays v entry t there is) in
+      let laid : VarLaysOut types a (unwrap_or (slot_of_var vars v) 0) t.0 (var.Data ty) = subst
+      (VarLaysOut types a (unwrap_or (slot_of_var vars v) 0) t.0) kind (var_lays v entry t there is) in
       let both = (laid found.cell.at).0 found.is in
       record {
         place = found.place;
@@ -194,7 +198,8 @@ module _ (types : List TypeEntry) (vars : List VarEntry) (a : Assignment) (cells
       Names types vars s (place.Var v) (numbered (1 + i))
   root_here v entry ty i x there kind at position typed =
       let (t, is) = tracked v entry there in
-      let laid : VarLaysOut types a (unwrap_or (slot_of_var vars v) 0) t.0 (var.Data ty) = subst (VarLaysOut types a (unwrap_or (slot_of_var vars v) 0) t.0) kind (var_lays v entry t there is) in
+      let laid : VarLaysOut types a (unwrap_or (slot_of_var vars v) 0) t.0 (var.Data ty) = subst
+      (VarLaysOut types a (unwrap_or (slot_of_var vars v) 0) t.0) kind (var_lays v entry t there is) in
       let first = first_alone (is_on a (Some t)) 1 cells i x at ((laid x.at).1 (position, typed))
       (λ j y at_y on. one_place types a cells are j i y x at_y at (((laid y.at).0 on).0 ∙ sym position)) in
       record {
@@ -211,7 +216,8 @@ module _ (types : List TypeEntry) (vars : List VarEntry) (a : Assignment) (cells
       field_value s c f ≡ Some (value.Cell (Some d)) → ChildAt types cells f c d
   child_named f c d is_data holds =
       let held = here_value types vars a cells c f (value.Cell (Some d)) holds in
-      let (ty, kind) = data_field held.entry.kind (some-entry (λ (e : FieldEntry). IsFollowed DataAlone e.kind) (field_at types f) held.entry held.there is_data) in
+      let (ty, kind) = data_field held.entry.kind
+      (some-entry (λ (e : FieldEntry). IsFollowed DataAlone e.kind) (field_at types f) held.entry held.there is_data) in
       let reference : option_and_then (child_at cells held.cell.at) (child_number types f) ≡ Some d =
       one_reference _ (Some d) (ap Some (ap (λ k. field_in types a cells held.cell.at f k) (sym kind) ∙ sym held.is)) in
       let (j, along_is, named) = and_then-some (child_at cells held.cell.at) (child_number types f) d reference in
@@ -282,7 +288,8 @@ module _ (types : List TypeEntry) (vars : List VarEntry) (a : Assignment) (cells
       let places : i ≡ k = omega arith in
       one_entry (slice_get cells k) x y (ap (λ n. slice_get cells n) (sym places) ∙ at) also
 
-  along_place : (fields : List FieldId) (c d : CellId) (i : ℕ) (x : Standing) → slice_get cells i ≡ Some x → c ≡ numbered (1 + i) → LeadsAlong types s fields c d →
+  along_place : (fields : List FieldId) (c d : CellId) (i : ℕ) (x : Standing) → slice_get cells i ≡ Some x → c ≡ numbered (1 + i) → LeadsAlong types s
+      fields c d →
       PlaceAt cells d (below types x.at fields)
   along_place [] c d i x at number h = record { place = i; cell = x; at = at; number = sym h.0 ∙ number; position = refl }
   along_place (f ∷ fields) c d i x at number h =
@@ -311,15 +318,18 @@ module _ (types : List TypeEntry) (vars : List VarEntry) (a : Assignment) (cells
         position = end.position ∙ ap (λ u. below types u h.fields) root.position ∙ sym h.position;
       }
 
-  along_step : (fields : List FieldId) (f : FieldId) (c d e : CellId) → LeadsAlong types s fields c d → Leads types s DataAlone f d e → LeadsAlong types s (fields ++ f ∷ []) c e
+  along_step : (fields : List FieldId) (f : FieldId) (c d e : CellId) → LeadsAlong types s fields c d → Leads types s DataAlone f d e → LeadsAlong types s
+      (fields ++ f ∷ []) c e
   along_step [] f c d e h leads = (e, subst (λ b. Leads types s DataAlone f b e) (sym h.0) leads, (refl, leads.live))
   along_step (g ∷ fields) f c d e h leads = (h.0, h.1, along_step fields f h.0 d e h.2 leads)
 
-  below_step : (fields : List FieldId) (f : FieldId) (u : Position) → below types u (fields ++ f ∷ []) ≡ child_of (unwrap_or (child_number types f) 0) (below types u fields)
+  below_step : (fields : List FieldId) (f : FieldId) (u : Position) → below types u (fields ++ f ∷ []) ≡ child_of (unwrap_or (child_number types f) 0)
+      (below types u fields)
   below_step [] f u = refl
   below_step (g ∷ fields) f u = below_step fields f (child_of (unwrap_or (child_number types g) 0) u)
 
-  pub had_entry : (index : ℕ) (f : FieldId) → IsTrue (has_field types (variant_in f.ty index) f) → (entry : FieldEntry) → field_at types f ≡ Some entry → is_had index entry ≡ true
+  pub had_entry : (index : ℕ) (f : FieldId) → IsTrue (has_field types (variant_in f.ty index) f) → (entry : FieldEntry) → field_at types f ≡ Some entry →
+      is_had index entry ≡ true
   had_entry index f has entry there =
       let last = and_second _ _ (and_second _ _ has) in
       subst (λ o. option_map_or (is_had index) o false ≡ true) there last
@@ -354,7 +364,8 @@ module _ (types : List TypeEntry) (vars : List VarEntry) (a : Assignment) (cells
           let (entry, there, kind) = IsSomeAnd-at (field_at types child.along) (λ e. e.kind ≡ field.Data x.variant.ty) child.kind in
           let above = earlier parent.0 (record { variant = variant_in child.along.ty child.has.index; at = child.parent }) parent.1
           (subst (λ p. length child.parent < length p) (sym child.position) (longer_child child.child child.parent)) in
-          let leads = child_here child.along entry x.variant.ty parent.0 i child.child (record { variant = variant_in child.along.ty child.has.index; at = child.parent })
+          let leads = child_here child.along entry x.variant.ty parent.0 i child.child
+          (record { variant = variant_in child.along.ty child.has.index; at = child.parent })
           x parent.1 at refl there kind (had_entry child.has.index child.along child.has.has entry there) child.number child.position in
           record {
             var = above.var;

@@ -1,5 +1,6 @@
 -- The cells of a finite assignment, as a list in preorder.
-use Rattle.std.proofs.Common.{◌≡◌, ◌⊎◌, ℕ, zero, suc, ◌+◌, ◌<◌, ◌≤◌, Bool, true, false, cond, IsTrue, inl, inr, List, [], ◌∷◌, ◌++◌, length, map, slice_get, Option, Some, None, IsSomeAnd}
+use Rattle.std.proofs.Common.{◌≡◌, ◌⊎◌, ℕ, zero, suc, ◌+◌, ◌<◌, ◌≤◌, Bool, true, false, cond, IsTrue, inl, inr, List, [], ◌∷◌, ◌++◌, length, map, slice_get}
+use Rattle.std.proofs.Common.{Option, Some, None, IsSomeAnd}
 use Rattle.std.proofs.Common.{refl, sym, ap, ◌∙◌, subst, arith, append_assoc, append-nil}
 use Rattle.std.proofs.lemmas.Bool.{cases_lt, false≢true}
 use Rattle.std.proofs.lemmas.Option.{slice_get_within, same_Some}
@@ -100,7 +101,8 @@ module _ (types : List TypeEntry) (vars : List VarEntry) (a : Assignment) (lays 
           (sym (ap (λ (y : Standing). y.at) same), subst (λ (y : Standing). IsCellOf types a y.variant y.at) same (on_cell v p on), refl)
       found (suc i) on at = absurd (cc)
 
-      by : (b : Bool) → is_on a (variant_track types v) p ≡ b → slice_get (cond b (record { variant = v; at = p } ∷ []) (cell_at types a p variants)) i ≡ Some x →
+      by : (b : Bool) → is_on a (variant_track types v) p ≡ b → slice_get (cond b (record { variant = v; at = p } ∷ []) (cell_at types a p variants)) i ≡
+          Some x →
           (slice_get (cell_at types a p variants) i ≡ Some x → (x.at ≡ p) × IsCellOf types a x.variant x.at × (i ≡ 0)) →
           (x.at ≡ p) × IsCellOf types a x.variant x.at × (i ≡ 0)
       by true on at rest = found i on at
@@ -150,7 +152,8 @@ module _ (types : List TypeEntry) (vars : List VarEntry) (a : Assignment) (lays 
       let at_p : IsCellOf types a v p = subst (IsCellOf types a v) (append-nil p) of in (
         0,
         in_first (here p) _ 0 (record { variant = v; at = p ++ [] })
-            (cell_all p (variants_from 0 types) t.0 v (variant-listed types v t is) at_p ∙ ap (λ q. Some (record { variant = v; at = q })) (sym (append-nil p))),
+            (cell_all p (variants_from 0 types) t.0 v (variant-listed types v t is) at_p ∙ ap (λ q. Some (record { variant = v; at = q }))
+            (sym (append-nil p))),
       )
   below_all (suc n) p (false ∷ w) v short of =
       let deep : p ++ (false ∷ w) ≡ (p ++ false ∷ []) ++ w = sym (append_assoc p (false ∷ []) w) in
@@ -195,7 +198,8 @@ module _ (types : List TypeEntry) (vars : List VarEntry) (a : Assignment) (lays 
 
   -- ---- all of them
 
-  pub AreCells-below : (depth : ℕ) → ((v : VariantId) (p : Position) → IsCellOf types a v p → length p < depth) → AreCells types a (cells_below types a depth [])
+  pub AreCells-below : (depth : ℕ) → ((v : VariantId) (p : Position) → IsCellOf types a v p → length p < depth) → AreCells types a
+      (cells_below types a depth [])
   unfolding InOrder
   AreCells-below depth short = record {
     each = λ i x at. (below_each depth [] i x at).0;
@@ -225,7 +229,8 @@ module _ (types : List TypeEntry) (vars : List VarEntry) (a : Assignment) (lays 
         | inr more ↦ absurd (false≢true (sym ((finite t.0).1 p (omega arith)) ∙ on))
       ]
 
-pub store_of_finite : (types : List TypeEntry) (vars : List VarEntry) (a : Assignment) → LaysOut types vars a → IsFinite a → (s : StoreMap) × IsStoreOf types vars a s
+pub store_of_finite : (types : List TypeEntry) (vars : List VarEntry) (a : Assignment) → LaysOut types vars a → IsFinite a → (s : StoreMap) × IsStoreOf
+    types vars a s
 store_of_finite types vars a lays finite =
     let depth = bound types vars a lays finite (length (variants_from 0 types)) in
     let cells = cells_below types a depth [] in

@@ -1,5 +1,6 @@
 -- The formula is satisfied exactly where a backbone is laid out.
-use Rattle.std.proofs.Common.{◌≡◌, ℕ, ◌<◌, ◌≤◌, ◌+◌, take, ◌↔◌, ◌⊎◌, inl, inr, cond, nat_lt, IsTrue, IfSome, List, [], ◌∷◌, ◌++◌, length, flat_map, unwrap_or, Some, None, Contains, sym, ap, subst, arith}
+use Rattle.std.proofs.Common.{◌≡◌, ℕ, ◌<◌, ◌≤◌, ◌+◌, take, ◌↔◌, ◌⊎◌, inl, inr, cond, nat_lt, IsTrue, IfSome, List, [], ◌∷◌, ◌++◌, length, flat_map, unwrap_or}
+use Rattle.std.proofs.Common.{Some, None, Contains, sym, ap, subst, arith}
 use Rattle.std.proofs.lemmas.Bool.{cases_order, lt-ltb, ltb-true}
 use Rattle.std.proofs.lemmas.Option.{slice_get_within}
 use Rattle.std.proofs.lemmas.List.Elements.{All-contains, Contains-append_left, Contains-append_right, Contains-append_cases}
@@ -20,7 +21,9 @@ use Rattle.tree_encode.specs.Counting.{is_counted, rank, variants_in, bools_in}
 use Rattle.tree_encode.specs.Tracks.{of_bool, of_var, track_count, track_at, bool_track, var_track, slot_of_var}
 use Rattle.tree_encode.proofs.TracksLemmas.{and_then-some}
 use Rattle.tree_store.proofs.SpotsLemmas.{of-some}
-use Rattle.tree_formula.specs.WellEncoded.{type_id, variant_in, field_in, var_id, types_in, variants_of, fields_in, vars_in, track_or_first, are_reached, is_had, field_part, type_parts, var_part, var_parts, are_apart, apart_pair, apart_from_later, apart_parts, parts, well_encoded}
+use Rattle.tree_formula.specs.WellEncoded.{type_id, variant_in, field_in, var_id, types_in, variants_of, fields_in, vars_in, track_or_first, are_reached}
+use Rattle.tree_formula.specs.WellEncoded.{is_had, field_part, type_parts, var_part, var_parts, are_apart, apart_pair, apart_from_later, apart_parts, parts}
+use Rattle.tree_formula.specs.WellEncoded.{well_encoded}
 use Rattle.tree_store.specs.Shapes.{IsCellOf, IsCellIn, HasFieldAt, IsTrueAt, IsSlotFor, IsChildFor, VarLaysOut, LaysOut}
 use Rattle.tree_store.specs.Premises.{OwnersAreThere}
 use Rattle.tree_store.proofs.ListsLemmas.{Contains-named, named-inside, flat_map-inside, Contains-one, cond-inside, listed-inside, Contains-listed}

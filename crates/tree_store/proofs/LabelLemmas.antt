@@ -1,5 +1,6 @@
 -- The tracks that a cell is on.
-use Rattle.std.proofs.Common.{◌≡◌, ◌↔◌, ◌⊎◌, ℕ, ◌+◌, ◌<◌, Bool, true, IsTrue, inl, inr, List, length, slice_get, option_map, Option, Some, None, IsSomeAnd, Contains, refl, sym, ap, ◌∙◌, subst}
+use Rattle.std.proofs.Common.{◌≡◌, ◌↔◌, ◌⊎◌, ℕ, ◌+◌, ◌<◌, Bool, true, IsTrue, inl, inr, List, length, slice_get, option_map, Option, Some, None, IsSomeAnd}
+use Rattle.std.proofs.Common.{Contains, refl, sym, ap, ◌∙◌, subst}
 use Rattle.std.proofs.lemmas.Bool.{ltb-true}
 use Rattle.std.proofs.lemmas.Option.{slice_get-get_or, slice_get_within, get_or_from_slice_get}
 use Rattle.ws2s_core.specs.declared.track.Track.{Track}

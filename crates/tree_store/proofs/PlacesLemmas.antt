@@ -1,5 +1,6 @@
 -- The places where a cell of a type may stand: slots, and children of cells.
-use Rattle.std.proofs.Common.{◌≡◌, ℕ, suc, ◌<◌, ◌≤◌, ◌↔◌, ◌⊎◌, inl, inr, cond, ◌==◌, List, [], ◌∷◌, length, flat_map, Option, Some, None, Contains, refl, sym, ap, ◌∙◌, subst, arith}
+use Rattle.std.proofs.Common.{◌≡◌, ℕ, suc, ◌<◌, ◌≤◌, ◌↔◌, ◌⊎◌, inl, inr, cond, ◌==◌, List, [], ◌∷◌, length, flat_map, Option, Some, None, Contains, refl, sym}
+use Rattle.std.proofs.Common.{ap, ◌∙◌, subst, arith}
 use Rattle.std.proofs.lemmas.Bool.{eqb-true, eq-eqb}
 use Rattle.std.proofs.lemmas.Option.{slice_get_within}
 use Rattle.std.proofs.lemmas.List.Elements.{Contains-append_left, Contains-append_right, Contains-append_cases}
@@ -24,7 +25,8 @@ use Rattle.store_core.specs.Tables.{TypeEntry, FieldEntry, VarEntry, fields_of, 
 use Rattle.store_core.proofs.FittingLemmas.{IsSomeAnd-at}
 use Rattle.tree_encode.specs.Tracks.{track_count, slot_of_var, child_number}
 use Rattle.tree_store.proofs.SpotsLemmas.{of-some}
-use Rattle.tree_formula.specs.WellEncoded.{type_id, field_in, var_id, types_in, fields_in, vars_in, is_live, has, at_slot, is_child, at_child, slot_places, child_places, places_below, places, are_reached}
+use Rattle.tree_formula.specs.WellEncoded.{type_id, field_in, var_id, types_in, fields_in, vars_in, is_live, has, at_slot, is_child, at_child, slot_places}
+use Rattle.tree_formula.specs.WellEncoded.{child_places, places_below, places, are_reached}
 use Rattle.tree_store.specs.Shapes.{IsCellIn, HasFieldAt, IsSlotFor, IsChildFor}
 use Rattle.tree_store.specs.Premises.{OwnersAreThere}
 use Rattle.tree_store.proofs.ListsLemmas.{Contains-named, flat_map-inside, cond-inside, listed-inside, Contains-listed}

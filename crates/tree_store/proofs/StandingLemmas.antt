@@ -20,7 +20,8 @@ use Rattle.tree_formula.specs.WellEncoded.{variant_in, variants_of, track_or_fir
 use Rattle.tree_store.specs.Shapes.{IsCellOf, IsCellIn, HasFieldAt}
 use Rattle.tree_store.specs.Premises.{OwnersAreThere}
 use Rattle.tree_store.proofs.ListsLemmas.{Contains-named, named-inside}
-use Rattle.tree_store.proofs.TablesLemmas.{number_of_variant, variant-there, cell-known, track-few, unnamed-known, only-cell, owner-is, owner-inside, has_field-from, has_field-had, common-had, own-had, had-own}
+use Rattle.tree_store.proofs.TablesLemmas.{number_of_variant, variant-there, cell-known, track-few, unnamed-known, only-cell, owner-is, owner-inside}
+use Rattle.tree_store.proofs.TablesLemmas.{has_field-from, has_field-had, common-had, own-had, had-own}
 
 -- the position alone is on track x of b, which has the first tracks of a
 pub record StandsOn (count : ℕ) (a b : Assignment) (x : ℕ) (p : Position) : Type 0 where

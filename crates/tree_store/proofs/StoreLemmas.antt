@@ -1,5 +1,6 @@
 -- The decoded store fits its tables, is a backbone, and is numbered in preorder.
-use Rattle.std.proofs.Common.{◌≡◌, ℕ, zero, suc, ◌+◌, ◌-◌, ◌<◌, Bool, true, false, cond, inl, inr, List, [], ◌∷◌, length, slice_get, Option, Some, None, IsSome, IsSomeAnd, IfSome}
+use Rattle.std.proofs.Common.{◌≡◌, ℕ, zero, suc, ◌+◌, ◌-◌, ◌<◌, Bool, true, false, cond, inl, inr, List, [], ◌∷◌, length, slice_get, Option, Some, None, IsSome}
+use Rattle.std.proofs.Common.{IsSomeAnd, IfSome}
 use Rattle.std.proofs.Common.{refl, sym, ap, ◌∙◌, subst, arith, Contains}
 use Rattle.std.specs.Prelude.{is_some, unwrap_or, All}
 use Rattle.std.specs.Option.{option_and_then}
@@ -20,7 +21,8 @@ use Rattle.store_core.specs.declared.kind.VarKind.TheVariants as var
 use Rattle.store_core.specs.declared.value.Value.{Value}
 use Rattle.store_core.specs.declared.value.Value.TheVariants as value
 use Rattle.store_core.specs.Tables.{TypeEntry, FieldEntry, VarEntry, fields_of, field_at, var_at, is_had, variant_count, KnowsVariant}
-use Rattle.store_core.specs.Stores.{StoreMap, CellEntry, IsLive, IsAbove, IsFresh, Fits, CellFits, SlotsFit, SlotFits, FieldFits, VarFits, VarsFit, NamesType, NamesLiveAlone}
+use Rattle.store_core.specs.Stores.{StoreMap, CellEntry, IsLive, IsAbove, IsFresh, Fits, CellFits, SlotsFit, SlotFits, FieldFits, VarFits, VarsFit, NamesType}
+use Rattle.store_core.specs.Stores.{NamesLiveAlone}
 use Rattle.store_core.specs.Stores.{cell_of, field_value, var_value}
 use Rattle.store_core.proofs.AboveLemmas.{IsAbove-from}
 use Rattle.store_core.proofs.FittingLemmas.{IfSome-from, IsSomeAnd-at}
@@ -35,7 +37,8 @@ use Rattle.tree_encode.specs.Tracks.{variant_track, var_track, slot_of_var, chil
 use Rattle.tree_encode.proofs.TracksLemmas.{cond-some}
 use Rattle.tree_store.specs.Shapes.{HasCellsIn, VarLaysOut, LaysOut}
 use Rattle.tree_store.specs.Preorder.{ComesBefore}
-use Rattle.tree_store.specs.Decoded.{Standing, AreCells, numbered, first_where, all_where, is_on, child_at, field_in, slots_in, cell_in, var_in, vars_in, decoded}
+use Rattle.tree_store.specs.Decoded.{Standing, AreCells, numbered, first_where, all_where, is_on, child_at, field_in, slots_in, cell_in, var_in, vars_in}
+use Rattle.tree_store.specs.Decoded.{decoded}
 use Rattle.tree_store.specs.Stores.{AreNumberedFromOne, AreInPreorder, IsStoreOf}
 use Rattle.tree_store.specs.Premises.{SetsHoldLive}
 use Rattle.tree_store.proofs.WordsLemmas.{slots-apart, slot-not_child, children-apart}
@@ -93,24 +96,28 @@ record GoodField (s : StoreMap) (kind : FieldKind) (y : Value) : Type 0 where
   fits : FieldFits s kind y
   live : NamesLiveAlone s y
 
-module _ (types : List TypeEntry) (vars : List VarEntry) (a : Assignment) (cells : List Standing) (lays : LaysOut types vars a) (are : AreCells types a cells) where
+module _ (types : List TypeEntry) (vars : List VarEntry) (a : Assignment) (cells : List Standing) (lays : LaysOut types vars a)
+    (are : AreCells types a cells) where
   abbrev s : StoreMap
   s = decoded types vars a cells
 
   type_here : (i : ℕ) (x : Standing) (ty : TypeId) (c : CellId) → slice_get cells i ≡ Some x → c ≡ numbered (1 + i) → x.variant.ty ≡ ty → IsOfType s ty c
   type_here i x ty c at number same =
-      entry-some (λ (e : CellEntry). e.variant.ty ≡ ty) (cell_of s c) (cell_in types a cells x) (ap (cell_of s) number ∙ cell_here types vars a cells i x at) same
+      entry-some (λ (e : CellEntry). e.variant.ty ≡ ty) (cell_of s c) (cell_in types a cells x)
+      (ap (cell_of s) number ∙ cell_here types vars a cells i x at) same
 
   -- ---- variables
 
-  found_type : (track : Option Track) (t : Track) (ty : TypeId) → track ≡ Some t → HasCellsIn types a ty t.0 → (c : CellId) → IsFoundAt (is_on a track) 1 cells c →
+  found_type : (track : Option Track) (t : Track) (ty : TypeId) → track ≡ Some t → HasCellsIn types a ty t.0 → (c : CellId) → IsFoundAt (is_on a track) 1
+      cells c →
       IsOfType s ty c
   found_type track t ty is has c found =
       type_here found.place found.cell ty c found.at (ap (λ (n : ℕ). record { 0 = n }) found.number)
       (in_type types vars a cells lays are found.place found.cell ty found.at
       (has found.cell.at (subst (λ o. is_on a o found.cell.at ≡ true) is found.is)))
 
-  var_of : (track : Option Track) (t : Track) → track ≡ Some t → (slot : ℕ) (kind : VarKind) → VarLaysOut types a slot t.0 kind → GoodVar s kind (var_in a cells track kind)
+  var_of : (track : Option Track) (t : Track) → track ≡ Some t → (slot : ℕ) (kind : VarKind) → VarLaysOut types a slot t.0 kind → GoodVar s kind
+      (var_in a cells track kind)
   var_of track t is slot var.Bool laid = record { holds = tt; sets = tt; fits = tt; live = tt }
   var_of track t is slot var.LogicBool laid = record { holds = tt; sets = tt; fits = tt; live = tt }
   var_of track t is slot (var.Data ty) laid =
@@ -258,7 +265,8 @@ module _ (types : List TypeEntry) (vars : List VarEntry) (a : Assignment) (cells
       let (number, position) = children-apart one.along other.along one.cell.at other.cell.at (ends types vars a cells lays are one.place one.cell one.at)
       (ends types vars a cells lays are other.place other.cell other.at) (sym one.position ∙ ap (λ (x : Standing). x.at) same ∙ other.position) in
       let places : one.place ≡ other.place = one_place types a cells are one.place other.place one.cell other.cell one.at other.at position in
-      let standing : one.cell ≡ other.cell = one_entry (slice_get cells other.place) one.cell other.cell (ap (λ n. slice_get cells n) (sym places) ∙ one.at) other.at in
+      let standing : one.cell ≡ other.cell = one_entry (slice_get cells other.place) one.cell other.cell
+      (ap (λ n. slice_get cells n) (sym places) ∙ one.at) other.at in
       let parents : b ≡ d = one.number ∙ ap (λ n. numbered (1 + n)) places ∙ sym other.number in
       let fields : f ≡ g = field_one types f g one.entry other.entry one.ty other.ty one.along one.there one.kind other.there other.kind
       (one.same ∙ ap (λ (x : Standing). x.variant.ty) standing ∙ sym other.same) one.along_is (other.along_is ∙ ap Some (sym number)) in
@@ -323,11 +331,13 @@ module _ (types : List TypeEntry) (vars : List VarEntry) (a : Assignment) (cells
             (are.in_order one.place other.place one.cell other.cell (omega arith) one.at other.at)),
         λ before. elim (cases_order one.place other.place) [
           | inl same ↦ absurd (ComesBefore-not_itself q (subst (λ u. ComesBefore u q) (sym one.position
-              ∙ ap (λ (x : Standing). x.at) (one_entry (slice_get cells other.place) one.cell other.cell (ap (λ n. slice_get cells n) (sym same) ∙ one.at) other.at)
+              ∙ ap (λ (x : Standing). x.at) (one_entry (slice_get cells other.place) one.cell other.cell (ap (λ n. slice_get cells n) (sym same) ∙ one.at)
+              other.at)
               ∙ other.position) before))
           | inr apart ↦ elim apart [
             | inl less ↦ omega arith
-            | inr more ↦ absurd (ComesBefore-one_way p q before (subst (λ u. ComesBefore u p) other.position (subst (λ u. ComesBefore other.cell.at u) one.position
+            | inr more ↦ absurd (ComesBefore-one_way p q before
+                (subst (λ u. ComesBefore u p) other.position (subst (λ u. ComesBefore other.cell.at u) one.position
                 (are.in_order other.place one.place other.cell one.cell more other.at one.at))))
           ]
         ],

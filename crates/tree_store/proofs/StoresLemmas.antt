@@ -1,5 +1,6 @@
 -- The store of a backbone on the tracks of its assignment.
-use Rattle.std.proofs.Common.{◌≡◌, ℕ, zero, suc, ◌<◌, ◌⊎◌, inl, inr, true, List, [], ◌∷◌, ◌++◌, slice_get, unwrap_or, IsTrue, Option, Some, None, refl, sym, ap, ◌∙◌, subst}
+use Rattle.std.proofs.Common.{◌≡◌, ℕ, zero, suc, ◌<◌, ◌⊎◌, inl, inr, true, List, [], ◌∷◌, ◌++◌, slice_get, unwrap_or, IsTrue, Option, Some, None, refl, sym, ap}
+use Rattle.std.proofs.Common.{◌∙◌, subst}
 use Rattle.std.specs.Option.{option_and_then}
 use Rattle.gta_theory.specs.Assignments.{Position, Assignment}
 use Rattle.ws2s_forms.specs.Places.{child_of}

@@ -1,5 +1,6 @@
 -- The tracks of a layout, and which variant has which field.
-use Rattle.std.proofs.Common.{◌≡◌, ℕ, zero, suc, ◌+◌, ◌<◌, true, false, cond, nat_lt, ◌==◌, ◌&&◌, List, [], ◌∷◌, slice_get, length, take, Option, Some, None, IsTrue, IfSome, ◌↔◌, refl, sym, ap, ◌∙◌, subst, arith, inl, inr}
+use Rattle.std.proofs.Common.{◌≡◌, ℕ, zero, suc, ◌+◌, ◌<◌, true, false, cond, nat_lt, ◌==◌, ◌&&◌, List, [], ◌∷◌, slice_get, length, take, Option, Some, None}
+use Rattle.std.proofs.Common.{IsTrue, IfSome, ◌↔◌, refl, sym, ap, ◌∙◌, subst, arith, inl, inr}
 use Rattle.std.specs.Option.{option_map_or, option_and_then}
 use Rattle.std.specs.List.{AllByRecursion}
 use Rattle.std.proofs.lemmas.Bool.{ltb-true, lt-ltb, eqb-true, eq-eqb, and_parts, and_from}
@@ -10,7 +11,8 @@ use Rattle.store_core.specs.declared.ids.TypeId.{TypeId}
 use Rattle.store_core.specs.declared.ids.VariantId.{VariantId}
 use Rattle.store_core.specs.declared.ids.FieldId.{FieldId}
 use Rattle.store_core.specs.declared.ids.VarId.{VarId}
-use Rattle.store_core.specs.Tables.{TypeEntry, FieldEntry, VarEntry, type_at, fields_of, field_at, var_at, count_of_variants, variant_count, unnamed_of, is_had, has_field, IsFieldEntry, IsTypeEntry, IsTypeTable}
+use Rattle.store_core.specs.Tables.{TypeEntry, FieldEntry, VarEntry, type_at, fields_of, field_at, var_at, count_of_variants, variant_count, unnamed_of, is_had}
+use Rattle.store_core.specs.Tables.{has_field, IsFieldEntry, IsTypeEntry, IsTypeTable}
 use Rattle.store_core.proofs.FittingLemmas.{IsSomeAnd-at, IfSome-at, IfSome-from}
 use Rattle.tree_encode.specs.Counting.{variants_in, bools_in}
 use Rattle.tree_encode.specs.Tracks.{TrackUse, tracks_of, track_count, track_at, variant_track, var_track}

@@ -1,5 +1,6 @@
 -- A tree that was made from the root down, turned about.
-use Rattle.std.proofs.Common.{◌≡◌, ◌≢◌, ◌↔◌, ℕ, suc, ◌+◌, ◌-◌, ◌<◌, ◌≤◌, IsTrue, true, false, cond, inl, inr, List, [], ◌∷◌, ◌++◌, length, map, reverse, slice_get, get_or, Bool, ◌==◌, option_map, Option, Some, None, IfSome, Contains, refl, sym, ap, ◌∙◌, subst, arith, eq-eqb, ne_eqb}
+use Rattle.std.proofs.Common.{◌≡◌, ◌≢◌, ◌↔◌, ℕ, suc, ◌+◌, ◌-◌, ◌<◌, ◌≤◌, IsTrue, true, false, cond, inl, inr, List, [], ◌∷◌, ◌++◌, length, map, reverse}
+use Rattle.std.proofs.Common.{slice_get, get_or, Bool, ◌==◌, option_map, Option, Some, None, IfSome, Contains, refl, sym, ap, ◌∙◌, subst, arith, eq-eqb, ne_eqb}
 use Rattle.std.specs.List.{list_any}
 use Rattle.std.specs.Option.{option_and_then}
 use Rattle.std.proofs.lemmas.Bool.{cases_eq, eqb-true}

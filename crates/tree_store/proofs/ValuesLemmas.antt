@@ -97,14 +97,17 @@ module _ (types : List TypeEntry) (vars : List VarEntry) (a : Assignment) (cells
   s = decoded types vars a cells
 
   pub cell_here : (i : ℕ) (x : Standing) → slice_get cells i ≡ Some x → cell_of s (numbered (1 + i)) ≡ Some (cell_in types a cells x)
-  cell_here i x at = get-from_sorted nat_cmp (entries_in types a cells 1 cells) (1 + i) (entries_sorted types a cells 1 cells) ∙ entry_found types a cells 1 cells i x at
+  cell_here i x at = get-from_sorted nat_cmp (entries_in types a cells 1 cells) (1 + i) (entries_sorted types a cells 1 cells) ∙ entry_found types a cells
+      1 cells i x at
 
   pub here_cell : (c : CellId) (e : CellEntry) → cell_of s c ≡ Some e → LiveAt types a cells c e
   here_cell c e live =
-      let found = found_entry types a cells 1 cells c.0 e (sym (get-from_sorted nat_cmp (entries_in types a cells 1 cells) c.0 (entries_sorted types a cells 1 cells)) ∙ live) in
+      let found = found_entry types a cells 1 cells c.0 e
+      (sym (get-from_sorted nat_cmp (entries_in types a cells 1 cells) c.0 (entries_sorted types a cells 1 cells)) ∙ live) in
       record { place = found.place; cell = found.cell; at = found.at; number = ap (λ (n : ℕ). record { 0 = n }) found.number; is = found.is }
 
-  pub value_here : (i : ℕ) (x : Standing) (f : FieldId) (entry : FieldEntry) → slice_get cells i ≡ Some x → f.ty ≡ x.variant.ty → field_at types f ≡ Some entry →
+  pub value_here : (i : ℕ) (x : Standing) (f : FieldId) (entry : FieldEntry) → slice_get cells i ≡ Some x → f.ty ≡ x.variant.ty → field_at types f ≡ Some
+      entry →
       is_had x.variant.index entry ≡ true → field_value s (numbered (1 + i)) f ≡ Some (field_in types a cells x.at f entry.kind)
   value_here i x f entry at same there had =
       ap (λ o. option_and_then (λ (cell : CellEntry). field_of cell f) o) (cell_here i x at) ∙ field_here types a cells x f entry same there had

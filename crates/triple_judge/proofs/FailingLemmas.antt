@@ -146,7 +146,8 @@ module _ (types : List TypeEntry) (vars : List VarEntry) (t : Triple) (table : I
     weighs = lightest.own.model.weighs
 
     cells : weight (each_once failure.tracks) (length found.tree) a ≡ length (keys s.cells)
-    cells = weight-cells types vars s a (each_once failure.tracks) (length found.tree) of.fits of.backbone of.assignment (are-variant_tracks types failure.tracks failure.all)
+    cells = weight-cells types vars s a (each_once failure.tracks) (length found.tree) of.fits of.backbone of.assignment
+        (are-variant_tracks types failure.tracks failure.all)
         (Covers-tree found.tree)
 
     holds : IsSatisfiedAt types vars t a found.site
@@ -178,7 +179,12 @@ module _ (types : List TypeEntry) (vars : List VarEntry) (t : Triple) (table : I
         omega (arith, no_less, others, cells, weighs)
 
     pub least-failing : IsLeastFailing types vars t s place.cause place.line
-    least-failing = record { meets = satisfied-meets types vars t table functional standing a s found.site (over s a finite well of.assignment) holds; fails = fails-there; numbers = of.numbers; fewest = fewest }
+    least-failing = record {
+      meets = satisfied-meets types vars t table functional standing a s found.site (over s a finite well of.assignment) holds;
+      fails = fails-there;
+      numbers = of.numbers;
+      fewest = fewest;
+    }
 
 -- ---- what the answers exclude
 

@@ -122,5 +122,6 @@ pub by_form : {E : Type 0} (program : TypedProgram) (a : Activation) (s : StoreM
     found ≡ n → IfOk r (λ end. (w : List Waiting) → GoesAs program a s (form_of n) w (turn_of w end)) →
     IfOk r (λ end. GoesAs program a s (form_of found) waiting (turn_of waiting end))
 by_form program a s found n waiting r is h = subst (λ (x : Next). IfOk r (λ end. GoesAs program a s (form_of x) waiting (turn_of waiting end))) (sym is)
-    (IfOk-weaker r (λ end. (w : List Waiting) → GoesAs program a s (form_of n) w (turn_of w end)) (λ end. GoesAs program a s (form_of n) waiting (turn_of waiting end))
+    (IfOk-weaker r (λ end. (w : List Waiting) → GoesAs program a s (form_of n) w (turn_of w end))
+    (λ end. GoesAs program a s (form_of n) waiting (turn_of waiting end))
     (λ end each. each waiting) h)

@@ -65,7 +65,8 @@ pub(crate) fn set_and_arrive(
 ) -> Result<Result<Store, Fault>, AllocError>
     requires set { CanSet caller.program.now caller.vars.now (settings caller.vars.now (test_of pick) cut.now.line) store }
     requires cut { CutFits caller.program.now.types caller.vars.now cut.now }
-    ensures { IfOk result (SetsAs caller.entry.program.now.types caller.entry.vars.now (settings caller.entry.vars.now (test_of pick.entry) cut.now.line) cut.now store) }
+    ensures { IfOk result (SetsAs caller.entry.program.now.types caller.entry.vars.now
+        (settings caller.entry.vars.now (test_of pick.entry) cut.now.line) cut.now store) }
 {
     let after = set_blank(alloc, caller, pick, cut.line, store)?;
     arrive(alloc, caller.program.types(), caller.vars, cut, after)

@@ -224,7 +224,8 @@ fn take_next<'a>(
     requires program { ProgramFits program.now }
     requires ready { IsReady program.now (entry_of activation) store }
     requires fits { FormFits program.now activation.vars.now (form_of found) }
-    ensures { IfOk result (λ end. GoesAs program.now activation.entry store (form_of found.entry) (all_waiting waiting.old) (turn_of (all_waiting waiting.new) end)) }
+    ensures { IfOk result (λ end. GoesAs program.now activation.entry store (form_of found.entry) (all_waiting waiting.old)
+        (turn_of (all_waiting waiting.new) end)) }
 {
     match found {
         Next::Do(line, act) => take_act(alloc, program, activation, store, line, act),

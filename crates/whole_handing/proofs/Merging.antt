@@ -95,7 +95,8 @@ found_taken q i es some =
     (subst IsSome (sym (find_both q (take i es) (drop i es))) (some_left (find nat_cmp q (take i es)) (find nat_cmp q (drop i es)) some))
 
 -- one entry more among the first
-found_more : (q i : ℕ) (es : List Entry) (e : Entry) → slice_get es i ≡ Some e → find nat_cmp q (take (i + 1) es) ≡ either (find nat_cmp q (take i es)) (one e q)
+found_more : (q i : ℕ) (es : List Entry) (e : Entry) → slice_get es i ≡ Some e → find nat_cmp q (take (i + 1) es) ≡ either (find nat_cmp q (take i es))
+    (one e q)
 found_more q i es e is =
     ap (find nat_cmp q) (take_more es i e (slice_get_within es i e is) ∙ ap (λ (x : Entry). take i es ++ x ∷ []) (get_or_from_slice_get es i e e is))
     ∙ find_both q (take i es) (e ∷ [])
@@ -107,7 +108,8 @@ order_push [] b rising below = (tt, tt)
 order_push (d ∷ made) b rising below =
     (AllByRecursion-push (λ (x : CellBody). d.number < x.number) made b rising.0 below.0, order_push made b rising.1 below.1)
 
-all_lower : (n m : ℕ) → n < m → (made : List CellBody) → AllByRecursion (λ (d : CellBody). d.number < n) made → AllByRecursion (λ (d : CellBody). d.number < m) made
+all_lower : (n m : ℕ) → n < m → (made : List CellBody) → AllByRecursion (λ (d : CellBody). d.number < n) made → AllByRecursion
+    (λ (d : CellBody). d.number < m) made
 all_lower n m less [] all = tt
 all_lower n m less (d ∷ made) all = let low = all.0 in (omega (arith, low, less), all_lower n m less made all.1)
 

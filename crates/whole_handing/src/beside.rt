@@ -78,7 +78,11 @@ pub(crate) fn beside(
 ) -> Result<Store, AllocError>
     requires apart { AreApart one.now other.now }
     requires later { other.now.next ≤ one.now.next }
-    ensures { IfOk result (λ made. made ≡ record { cells = from_entries (entries one.now.cells ++ entries other.now.cells); vars = vars; next = one.now.next }) }
+    ensures { IfOk result (λ made. made ≡ record {
+      cells = from_entries (entries one.now.cells ++ entries other.now.cells);
+      vars = vars;
+      next = one.now.next;
+    }) }
 {
     let made = all_cells(alloc, one, other)?;
     // Only for its clause on the numbers.

@@ -57,7 +57,8 @@ module _ (types : List TypeEntry) (vars : List VarEntry) (line : ℕ) where
   blank_ends s v why true e = absurd cc
   blank_ends s v why false e =
       let made : made_of {Y = StoreMap} (λ (got : StoreMap × Value). set_var got.0 v got.1) (made_of (λ truth. (s, value.Bool truth)) (Ok false)) ≡ Err why =
-      ap (λ (r : Result Bool Cause). made_of {Y = StoreMap} (λ (got : StoreMap × Value). set_var got.0 v got.1) (made_of (λ truth. (s, value.Bool truth)) r)) (sym (false_is s))
+      ap (λ (r : Result Bool Cause). made_of {Y = StoreMap} (λ (got : StoreMap × Value). set_var got.0 v got.1)
+      (made_of (λ truth. (s, value.Bool truth)) r)) (sym (false_is s))
       ∙ e in
       absurd cc
 

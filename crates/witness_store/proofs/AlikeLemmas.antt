@@ -141,7 +141,8 @@ module _ (types : List TypeEntry) (s t : StoreMap) (k : IsSameButPointers types 
   leads_alike : (f : FieldId) (a b : CellId) → Leads types s DataAlone f a b → Leads types t DataAlone f a b
   leads_alike f a b h = record { kind = h.kind; value = k.fields a f (data_alone types f h.kind) ∙ h.value; live = live_alike b h.live }
 
-  pub truth_alike : DoCellsFit types s → (a : CellId) (f : FieldId) (b : Bool) → field_value s a f ≡ Some (value.Bool b) → field_value t a f ≡ Some (value.Bool b)
+  pub truth_alike : DoCellsFit types s → (a : CellId) (f : FieldId) (b : Bool) → field_value s a f ≡ Some (value.Bool b) → field_value t a f ≡ Some
+      (value.Bool b)
   truth_alike fits a f b e = k.fields a f (truth_alone types s f b (value_kind types s fits a f (value.Bool b) e)) ∙ e
 
   names_alike : (vars : List VarEntry) (p : Place) (c : CellId) → Names types vars s p c → Names types vars t p c
@@ -152,7 +153,8 @@ module _ (types : List TypeEntry) (s t : StoreMap) (k : IsSameButPointers types 
   along_alike [] a b h = (h.0, live_alike a h.1)
   along_alike (f ∷ fields) a b h = (h.0, leads_alike f a h.0 h.1, along_alike fields h.0 b h.2)
 
-  pub stands_alike : (vars : List VarEntry) (v : VarId) (fields : List FieldId) (c : CellId) → StandsAt types vars s v fields c → StandsAt types vars t v fields c
+  pub stands_alike : (vars : List VarEntry) (v : VarId) (fields : List FieldId) (c : CellId) → StandsAt types vars s v fields c → StandsAt types vars t v
+      fields c
   stands_alike vars v fields c h = record {
     root = h.root;
     named = names_alike vars (place.Var v) h.root h.named;
@@ -171,7 +173,8 @@ module _ (types : List TypeEntry) (s t : StoreMap) (fits : DoCellsFit types s) (
     one = λ a c d h l. sym h.0 ∙ l.0;
     other = λ a b c h l. h.0 ∙ sym l.0;
     live = λ a c h. (h.1, subst (IsLive t) h.0 (live_alike types s t k a h.1));
-    variant = λ a c h v. subst (λ x. IsOfVariant s v a ↔ IsOfVariant t v x) h.0 (by_variant types s t k (λ w. w ≡ v) a, by_variant types t s back (λ w. w ≡ v) a);
+    variant = λ a c h v. subst (λ x. IsOfVariant s v a ↔ IsOfVariant t v x) h.0
+        (by_variant types s t k (λ w. w ≡ v) a, by_variant types t s back (λ w. w ≡ v) a);
     truth = λ a c h f b. subst (λ x. (field_value s a f ≡ Some (value.Bool b)) ↔ (field_value t x f ≡ Some (value.Bool b))) h.0
         (truth_alike types s t k fits a f b, truth_alike types t s back other_fits a f b);
     down = λ f a b c h leads. (b, (refl, leads.live), subst (λ x. Leads types t DataAlone f x b) h.0 (leads_alike types s t k f a b leads));
@@ -180,7 +183,8 @@ module _ (types : List TypeEntry) (s t : StoreMap) (fits : DoCellsFit types s) (
       (refl, (Leads-live types s DataAlone f a b leads).0),
       subst (λ x. Leads types t DataAlone f a x) h.0 (leads_alike types s t k f a b leads),
     );
-    down_back = λ f a c d h leads. let l = leads_alike types t s back f c d leads in (d, (refl, l.live), subst (λ x. Leads types s DataAlone f x d) (sym h.0) l);
+    down_back = λ f a c d h leads. let l = leads_alike types t s back f c d leads in
+        (d, (refl, l.live), subst (λ x. Leads types s DataAlone f x d) (sym h.0) l);
     up_back = λ f b c d h leads. let l = leads_alike types t s back f c d leads in
         (c, (refl, (Leads-live types s DataAlone f c d l).0), subst (λ x. Leads types s DataAlone f c x) (sym h.0) l);
   }
@@ -217,7 +221,8 @@ module _ (types : List TypeEntry) (s t : StoreMap) (fits : DoCellsFit types s) (
   var_holds_alike var.LogicBool x h = tt
 
   field_holds_alike : (c : CellId) (f : FieldId) (o : Option FieldEntry) → field_at types f ≡ o →
-      IfSome o (λ entry. IfSome (field_value s c f) (FieldHoldsLive s entry.kind)) → IfSome o (λ entry. IfSome (field_value t c f) (FieldHoldsLive t entry.kind))
+      IfSome o (λ entry. IfSome (field_value s c f) (FieldHoldsLive s entry.kind)) → IfSome o
+      (λ entry. IfSome (field_value t c f) (FieldHoldsLive t entry.kind))
   field_holds_alike c f None at h = tt
   field_holds_alike c f (Some entry) at h = by entry.kind refl h
     where
@@ -247,8 +252,15 @@ module _ (types : List TypeEntry) (s t : StoreMap) (fits : DoCellsFit types s) (
     named_once = λ c p q live by_p by_q. backbone.named_once c p q (live_alike types t s back c live) (names_alike types t s back vars p c by_p)
         (names_alike types t s back vars q c by_q);
     reached = λ c live.
-        let tree = backbone.reached c (live_alike types t s back c live) in
-        (tree.0, record { root = tree.1.root; named = names_alike types s t k vars (place.Var tree.0) tree.1.root tree.1.named; path = chain_alike tree.1.path });
+        let tree = backbone.reached c (live_alike types t s back c live) in (
+          tree.0,
+          record {
+            root = tree.1.root;
+            named = names_alike types s t k vars (place.Var tree.0) tree.1.root tree.1.named;
+            path = chain_alike
+                tree.1.path;
+          },
+        );
   }
 
 pub AreAlike-same : (types : List TypeEntry) (s t : StoreMap) → DoCellsFit types s → DoCellsFit types t → IsSameButPointers types s t → AreAlike types s t

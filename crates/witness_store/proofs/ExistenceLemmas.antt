@@ -1,5 +1,6 @@
 -- Every store has one whose pointer fields are set.
-use Rattle.std.proofs.Common.{◌≡◌, ◌↔◌, ℕ, zero, suc, ◌+◌, ◌<◌, ◌≤◌, List, [], ◌∷◌, ◌++◌, length, slice_get, Option, Some, None, IsSome, IsSomeAnd, option_map, refl, sym, ap, ◌∙◌, subst, arith}
+use Rattle.std.proofs.Common.{◌≡◌, ◌↔◌, ℕ, zero, suc, ◌+◌, ◌<◌, ◌≤◌, List, [], ◌∷◌, ◌++◌, length, slice_get, Option, Some, None, IsSome, IsSomeAnd, option_map}
+use Rattle.std.proofs.Common.{refl, sym, ap, ◌∙◌, subst, arith}
 use Rattle.std.specs.Prelude.{is_some}
 use Rattle.std.specs.FinMap.{keys}
 use Rattle.store_core.specs.declared.ids.TypeId.{TypeId}
@@ -19,7 +20,8 @@ use Rattle.witness_store.specs.declared.finding.Pointing.{Pointing}
 use Rattle.witness_store.specs.Pointers.{IsPointerField, DoCellsFit}
 use Rattle.witness_store.specs.PointerFinding.{IsPointing}
 use Rattle.witness_store.specs.Setting.{IsSetFrom}
-use Rattle.witness_store.proofs.FindingLemmas.{pointing_found, PointingAt, PointingAt-some, PointingAt-none, PointingAt-all, PointingAt-dead, PointingOf, PointingOf-cell, PointingOf-all}
+use Rattle.witness_store.proofs.FindingLemmas.{pointing_found, PointingAt, PointingAt-some, PointingAt-none, PointingAt-all, PointingAt-dead, PointingOf}
+use Rattle.witness_store.proofs.FindingLemmas.{PointingOf-cell, PointingOf-all}
 use Rattle.witness_store.proofs.SettingLemmas.{only_listed, AreSetBefore, set_start, AreSetBefore-next, ArePointersSet-all}
 
 held : (o : Option Value) → IsSome o → (x : Value) × (o ≡ Some x)
@@ -72,7 +74,8 @@ module _ (types : List TypeEntry) (s : StoreMap) (fits : DoCellsFit types s) whe
   decides c f = by (field_at types f) refl
     where
       by : (o : Option FieldEntry) → field_at types f ≡ o → Decides c f
-      by None there = decides_none c f (λ x cell along pointing. subst (λ o. IsSomeAnd o (λ entry. IsPointer entry.kind)) there (subst (IsPointerField types) along pointing.kind))
+      by None there = decides_none c f (λ x cell along pointing. subst (λ o. IsSomeAnd o (λ entry. IsPointer entry.kind)) there
+          (subst (IsPointerField types) along pointing.kind))
       by (Some e) there = decides_kind c f e there e.kind refl
 
   -- ---- all pointer fields

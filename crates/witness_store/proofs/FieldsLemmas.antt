@@ -1,5 +1,6 @@
 -- What the fields of the cells hold.
-use Rattle.std.proofs.Common.{◌≡◌, ℕ, zero, suc, ◌+◌, ◌<◌, ◌&&◌, Bool, true, false, cond, nat_lt, List, [], ◌∷◌, ◌++◌, length, take, slice_get, Option, Some, None, option_map, refl, sym, ap, ◌∙◌, subst, arith, append_assoc, append-nil, eq-eqb}
+use Rattle.std.proofs.Common.{◌≡◌, ℕ, zero, suc, ◌+◌, ◌<◌, ◌&&◌, Bool, true, false, cond, nat_lt, List, [], ◌∷◌, ◌++◌, length, take, slice_get, Option, Some}
+use Rattle.std.proofs.Common.{None, option_map, refl, sym, ap, ◌∙◌, subst, arith, append_assoc, append-nil, eq-eqb}
 use Rattle.std.specs.Prelude.{count_by}
 use Rattle.std.specs.Option.{option_map_or, option_and_then}
 use Rattle.std.proofs.lemmas.Bool.Decides.{nat_tests}
@@ -103,20 +104,25 @@ module _ (types : List TypeEntry) (nodes : List TreeNode) (tree : IsTree nodes) 
   counted : Bool
   counted = option_map_or (is_counted Children) (slice_get (fields_of types ty) i) false
 
-  next-rank : (b : Bool) → counted ≡ b → rank Children types (record { ty = ty; index = i + 1 }) ≡ rank Children types (record { ty = ty; index = i }) + cond b 1 0
+  next-rank : (b : Bool) → counted ≡ b → rank Children types (record { ty = ty; index = i + 1 }) ≡ rank Children types (record { ty = ty; index = i }) +
+      cond b 1 0
   unfolding counted
-  next-rank b is = count-more (is_counted Children) (fields_of types ty) i within ∙ ap (λ c. count_by (is_counted Children) (take i (fields_of types ty)) + cond c 1 0) is
+  next-rank b is = count-more (is_counted Children) (fields_of types ty) i within ∙ ap
+      (λ c. count_by (is_counted Children) (take i (fields_of types ty)) + cond c 1 0) is
 
-  pub behind-data : option_map_or (is_counted Children) (field_at types (record { ty = ty; index = i })) false ≡ true → IsBehind types nodes p ty (i + 1) (right_of_node nodes place)
+  pub behind-data : option_map_or (is_counted Children) (field_at types (record { ty = ty; index = i })) false ≡ true → IsBehind types nodes p ty (i + 1)
+      (right_of_node nodes place)
   unfolding counted
   behind-data is =
       let n = rank Children types (record { ty = ty; index = i }) in
       let more = next-rank true is in
       let number : suc n ≡ rank Children types (record { ty = ty; index = i + 1 }) = omega arith in
-      subst (λ q. IsNodeAt nodes q (right_of_node nodes place)) (append_assoc p (ones n) (true ∷ []) ∙ ap (λ q. p ++ q) (ones-more n) ∙ ap (λ m. p ++ ones m) number)
+      subst (λ q. IsNodeAt nodes q (right_of_node nodes place))
+      (append_assoc p (ones n) (true ∷ []) ∙ ap (λ q. p ++ q) (ones-more n) ∙ ap (λ m. p ++ ones m) number)
       (right-node nodes tree (p ++ ones n) place behind)
 
-  pub behind-other : option_map_or (is_counted Children) (field_at types (record { ty = ty; index = i })) false ≡ false → IsBehind types nodes p ty (i + 1) place
+  pub behind-other : option_map_or (is_counted Children) (field_at types (record { ty = ty; index = i })) false ≡ false → IsBehind types nodes p ty
+      (i + 1) place
   unfolding counted
   behind-other is =
       let n = rank Children types (record { ty = ty; index = i }) in
@@ -124,13 +130,15 @@ module _ (types : List TypeEntry) (nodes : List TreeNode) (tree : IsTree nodes) 
       let number : n ≡ rank Children types (record { ty = ty; index = i + 1 }) = omega arith in
       subst (λ m. IsNodeAt nodes (p ++ ones m) place) number behind
 
-pub behind-none : (types : List TypeEntry) (nodes : List TreeNode) (p : Position) (ty : TypeId) (k : ℕ) → IsNodeAt nodes p (Some k) → IsBehind types nodes p ty 0 (Some k)
+pub behind-none : (types : List TypeEntry) (nodes : List TreeNode) (p : Position) (ty : TypeId) (k : ℕ) → IsNodeAt nodes p (Some k) → IsBehind types nodes
+    p ty 0 (Some k)
 behind-none types nodes p ty k above = subst (λ q. IsNodeAt nodes q (Some k)) (sym (append-nil p)) above
 
 -- ---- the fields so far
 
 pub slots-more : (types : List TypeEntry) (a : Assignment) (cells : List Standing) (x : Standing) (n : ℕ) (fields : List FieldEntry) (entry : FieldEntry) →
-    slots_in types a cells x n (fields ++ entry ∷ []) ≡ slots_in types a cells x n fields ++ slot_in types a cells x (own_field x (n + length fields)) entry ∷ []
+    slots_in types a cells x n (fields ++ entry ∷ []) ≡ slots_in types a cells x n fields ++ slot_in types a cells x (own_field x (n + length fields))
+    entry ∷ []
 slots-more types a cells x n [] entry = let none : n ≡ n + 0 = omega arith in ap (λ m. slot_in types a cells x (own_field x m) entry ∷ []) none
 slots-more types a cells x n (f ∷ fields) entry =
     let next : suc n + length fields ≡ n + suc (length fields) = omega arith in

@@ -1,5 +1,6 @@
 -- What pointer fields have to hold, found place by place.
-use Rattle.std.proofs.Common.{◌≡◌, ◌↔◌, ◌⊎◌, ◌<◌, ◌≤◌, ◌+◌, ℕ, zero, suc, inl, inr, true, false, List, [], ◌∷◌, slice_get, length, Option, Some, None, IsSome, IsSomeAnd, Contains}
+use Rattle.std.proofs.Common.{◌≡◌, ◌↔◌, ◌⊎◌, ◌<◌, ◌≤◌, ◌+◌, ℕ, zero, suc, inl, inr, true, false, List, [], ◌∷◌, slice_get, length, Option, Some, None, IsSome}
+use Rattle.std.proofs.Common.{IsSomeAnd, Contains}
 use Rattle.std.proofs.Common.{refl, sym, ap, ◌∙◌, subst, arith}
 use Rattle.std.specs.List.{AllByRecursion}
 use Rattle.std.specs.Prelude.{option_map, is_some}
@@ -121,7 +122,8 @@ module _ (s : StoreMap) (target : TypeId) (cells : List CellId) where
 -- ---- the field of a cell
 
 -- what a field has to hold is looked for among the ends of its walks
-pub only_destination : (types : List TypeEntry) (s : StoreMap) (c : CellId) (f : FieldId) (target : TypeId) (along : Route) (cells : List CellId) (o : Option CellId) →
+pub only_destination : (types : List TypeEntry) (s : StoreMap) (c : CellId) (f : FieldId) (target : TypeId) (along : Route) (cells : List CellId)
+    (o : Option CellId) →
     IsSomeAnd (field_at types f) (λ entry. entry.kind ≡ field.Pointer target along) → Lists (Walk types s DataAlone along c) cells →
     IsOnlyCell (λ d. Contains cells d × IsOfType s target d) o → IsOnlyCell (Dest types s c f) o
 only_destination types s c f target along cells o kind listed only = IsOnlyCell-alike _ (Dest types s c f) alike o only
@@ -155,12 +157,14 @@ pointing_found types s c f o x is = (
   λ h. ap Some (λ i. record {
     cell = sym h.0 i;
     field = sym h.1 i;
-    to = IsOnlyCell-once (Dest types s c f) o x.to is.to (subst (λ g. IsOnlyCell (Dest types s c g) x.to) h.1 (subst (λ d. IsOnlyCell (Dest types s d x.field) x.to) h.0 h.2.to)) i;
+    to = IsOnlyCell-once (Dest types s c f) o x.to is.to
+        (subst (λ g. IsOnlyCell (Dest types s c g) x.to) h.1 (subst (λ d. IsOnlyCell (Dest types s d x.field) x.to) h.0 h.2.to)) i;
   }),
 )
 
 -- a pointer field that the cell has, with what it has to hold
-pub pointing_here : (types : List TypeEntry) (s : StoreMap) (c : CellId) (f : FieldId) (target : TypeId) (along : Route) (kind : FieldKind) (cells : List CellId)
+pub pointing_here : (types : List TypeEntry) (s : StoreMap) (c : CellId) (f : FieldId) (target : TypeId) (along : Route) (kind : FieldKind)
+    (cells : List CellId)
     (o : Option CellId) → Some kind ≡ option_map (λ entry. entry.kind) (field_at types f) → kind ≡ field.Pointer target along →
     IsSome (field_value s c f) → Lists (Walk types s DataAlone along c) cells → IsOnlyCell (λ d. Contains cells d × IsOfType s target d) o →
     IsPointing types s (record { cell = c; field = f; to = o })
@@ -230,7 +234,12 @@ PointingAt-all types s c ty n typed enough x = (
       let same : x.field.ty ≡ ty = field-type s c x.field ty value.0 typed (subst (λ d. field_value s d x.field ≡ Some value.0) h.0 value.1) in
       let inside : x.field.index < length (fields_of types ty) =
       subst (λ t. x.field.index < length (fields_of types t)) same (IsSomeAnd-within (fields_of types x.field.ty) x.field.index _ h.1.kind) in
-      record { place = x.field.index; before = omega arith; at = record { cell_is = h.0; field_is = λ i. record { ty = same i; index = x.field.index }; is = h.1 } },
+      record {
+        place = x.field.index;
+        before = omega arith;
+        at = record
+            { cell_is = h.0; field_is = λ i. record { ty = same i; index = x.field.index }; is = h.1 };
+      },
 )
 
 IsLive-field_value : (s : StoreMap) (c : CellId) (f : FieldId) → IsSome (field_value s c f) → IsLive s c

@@ -1,5 +1,6 @@
 -- What is found at the nodes in preorder are the cells of the tree.
-use Rattle.std.proofs.Common.{◌≡◌, ℕ, zero, suc, ◌+◌, ◌<◌, true, eqb, nat_lt, take, IsTrue, List, [], ◌∷◌, ◌++◌, length, map, slice_get, Option, Some, None, IsSomeAnd, refl, sym, ap, ◌∙◌, subst, arith, eqb-true, eq-eqb}
+use Rattle.std.proofs.Common.{◌≡◌, ℕ, zero, suc, ◌+◌, ◌<◌, true, eqb, nat_lt, take, IsTrue, List, [], ◌∷◌, ◌++◌, length, map, slice_get, Option, Some, None}
+use Rattle.std.proofs.Common.{IsSomeAnd, refl, sym, ap, ◌∙◌, subst, arith, eqb-true, eq-eqb}
 use Rattle.std.specs.Option.{option_map_or, option_and_then}
 use Rattle.std.proofs.lemmas.Bool.{ltb-true}
 use Rattle.std.proofs.lemmas.List.{length-map}
@@ -64,7 +65,8 @@ module _ (variant : ℕ → Option VariantId) where
   found-one nodes (x ∷ xs) stands = by (found-one nodes xs (λ i y at. stands (suc i) y at)) (stands 0 x refl) (variant x.place)
     where
       by : AreFoundAs nodes (found_among variant (places_of xs)) (cells_among xs) → StandsAt nodes x.place x.at → (o : Option VariantId) →
-          AreFoundAs nodes (option_map_or (λ v. record { node = x.place; variant = v } ∷ found_among variant (places_of xs)) o (found_among variant (places_of xs)))
+          AreFoundAs nodes (option_map_or (λ v. record { node = x.place; variant = v } ∷ found_among variant (places_of xs)) o
+          (found_among variant (places_of xs)))
           (option_map_or (λ v. record { variant = v; at = x.at } ∷ cells_among xs) o (cells_among xs))
       by rest here None = rest
       by rest here (Some v) = AreFoundAs-first nodes _ _ _ _ (record { variant = refl; node = here }) rest
@@ -107,7 +109,8 @@ module _ (variant : ℕ → Option VariantId) where
   all-among (y ∷ xs) (suc k) x v at is = by (all-among xs k x v at is) (variant y.place)
     where
       by : (i : ℕ) × (slice_get (cells_among xs) i ≡ Some (record { variant = v; at = x.at })) → (o : Option VariantId) →
-          (i : ℕ) × (slice_get (option_map_or (λ w. record { variant = w; at = y.at } ∷ cells_among xs) o (cells_among xs)) i ≡ Some (record { variant = v; at = x.at }))
+          (i : ℕ) × (slice_get (option_map_or (λ w. record { variant = w; at = y.at } ∷ cells_among xs) o (cells_among xs)) i ≡ Some
+          (record { variant = v; at = x.at }))
       by rest None = rest
       by rest (Some w) = (suc rest.0, rest.1)
 
@@ -140,7 +143,8 @@ found-more variant (j ∷ places) k =
     ap (λ l. option_map_or (λ v. record { node = j; variant = v } ∷ l) (variant j) l) (found-more variant places k) ∙ by (variant j)
   where
     by : (o : Option VariantId) →
-        option_map_or (λ v. record { node = j; variant = v } ∷ (found_among variant places ++ option_map_or (λ w. record { node = k; variant = w } ∷ []) (variant k) [])) o
+        option_map_or (λ v. record { node = j; variant = v } ∷
+        (found_among variant places ++ option_map_or (λ w. record { node = k; variant = w } ∷ []) (variant k) [])) o
         (found_among variant places ++ option_map_or (λ w. record { node = k; variant = w } ∷ []) (variant k) [])
         ≡ option_map_or (λ v. record { node = j; variant = v } ∷ found_among variant places) o (found_among variant places)
         ++ option_map_or (λ w. record { node = k; variant = w } ∷ []) (variant k) []
@@ -184,7 +188,8 @@ on-track variants (t ∷ tracks) v is = by (λ e. on-track variants tracks v e) 
     by rest (Some w) at is = record { track = t.0; on = labelled (t ∷ tracks) 0 t refl; variant_is = at ∙ is }
 
 -- where there is one, one is found
-on-some : (variants : List VariantId) (tracks : List Track) (k : ℕ) (t : Track) (v : VariantId) → slice_get tracks k ≡ Some t → slice_get variants t.0 ≡ Some v →
+on-some : (variants : List VariantId) (tracks : List Track) (k : ℕ) (t : Track) (v : VariantId) → slice_get tracks k ≡ Some t → slice_get variants t.0 ≡
+    Some v →
     (w : VariantId) × (variant_on variants tracks ≡ Some w)
 on-some variants [] k t v at is = absurd (cc)
 on-some variants (u ∷ tracks) zero t v at is =
@@ -251,7 +256,8 @@ module _ (types : List TypeEntry) (vars : List VarEntry) (nodes : List TreeNode)
 
 -- ---- how many they are
 
-module _ (types : List TypeEntry) (nodes : List TreeNode) (tree : IsTree nodes) (found : List Found) (cells : List Standing) (are : AreFound types nodes found cells) where
+module _ (types : List TypeEntry) (nodes : List TreeNode) (tree : IsTree nodes) (found : List Found) (cells : List Standing)
+    (are : AreFound types nodes found cells) where
   standing : (i : ℕ) (f : Found) → slice_get found i ≡ Some f → (x : Standing) × (slice_get cells i ≡ Some x) × StandsAt nodes f.node x.at
   standing i f at =
       let within = slice_get_within found i f at in

@@ -21,12 +21,14 @@ some_unit o x is = subst (λ p. IsSomeAnd p (λ y. Unit {0})) (sym is) tt
 
 module _ (types : List TypeEntry) (vars : List VarEntry) (s : StoreMap) (functional : AreFunctional types) (fits : Fits types vars s)
     (backbone : IsBackbone types vars s) where
-  one_dest : (c : CellId) (f : FieldId) (x : Value) → IsPointerField types f → field_value s c f ≡ Some x → (d e : CellId) → Dest types s c f d → Dest types s c f e → d ≡ e
+  one_dest : (c : CellId) (f : FieldId) (x : Value) → IsPointerField types f → field_value s c f ≡ Some x → (d e : CellId) → Dest types s c f d → Dest
+      types s c f e → d ≡ e
   one_dest c f x pointer at d e to_d to_e = (functional f pointer).at_most_one vars s fits backbone c d e (some_unit (field_value s c f) x at) to_d to_e
 
   -- ---- well-formed
 
-  only_from : (c : CellId) (f : FieldId) (x : Value) → IsPointerField types f → field_value s c f ≡ Some x → IsDestinationIfOne types s c f x → IsOnlyDestination types s c f x
+  only_from : (c : CellId) (f : FieldId) (x : Value) → IsPointerField types f → field_value s c f ≡ Some x → IsDestinationIfOne types s c f x →
+      IsOnlyDestination types s c f x
   only_from c f (value.Bool truth) pointer at h = h
   only_from c f (value.Cell None) pointer at (inl none) = none
   only_from c f (value.Cell None) pointer at (inr two) =
@@ -42,7 +44,8 @@ IsWellFormed-set types vars s a functional of set = record {
   fits = of.fits;
   backbone = of.backbone;
   pointers = λ c f pointer. IfSome-from (field_value s c f) (IsOnlyDestination types s c f) (λ x at.
-      only_from types vars s functional of.fits of.backbone c f x pointer at (IfSome-at (field_value s c f) (IsDestinationIfOne types s c f) x at (set c f pointer)));
+      only_from types vars s functional of.fits of.backbone c f x pointer at
+      (IfSome-at (field_value s c f) (IsDestinationIfOne types s c f) x at (set c f pointer)));
   sets = of.sets;
 }
 

@@ -9,7 +9,8 @@ use Rattle.store_core.specs.declared.ids.FieldId.{FieldId}
 use Rattle.store_core.specs.declared.ids.VariantId.{VariantId}
 use Rattle.store_core.specs.declared.value.Value.{Value}
 use Rattle.store_core.specs.Tables.{TypeEntry, FieldEntry, fields_of, field_at}
-use Rattle.store_core.specs.Stores.{StoreMap, CellEntry, IsLive, cell_of, field_of, field_value, with_field, set_field, NamesType, FieldFits, SlotsFit, CellFits}
+use Rattle.store_core.specs.Stores.{StoreMap, CellEntry, IsLive, cell_of, field_of, field_value, with_field, set_field, NamesType, FieldFits, SlotsFit}
+use Rattle.store_core.specs.Stores.{CellFits}
 use Rattle.store_core.proofs.FittingLemmas.{IfSome-from, IfSome-at, IsSomeAnd-at, same_type}
 use Rattle.store_laws.specs.Changed.{IsFieldSet}
 use Rattle.store_laws.proofs.CellLemmas.{cell_cases, set_here, set_elsewhere}

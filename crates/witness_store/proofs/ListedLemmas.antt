@@ -1,5 +1,6 @@
 -- The cells and the variables so far.
-use Rattle.std.proofs.Common.{◌≡◌, ℕ, suc, ◌+◌, Bool, true, false, cond, List, [], ◌∷◌, ◌++◌, length, take, slice_get, Some, refl, sym, ap, ◌∙◌, arith, append-nil}
+use Rattle.std.proofs.Common.{◌≡◌, ℕ, suc, ◌+◌, Bool, true, false, cond, List, [], ◌∷◌, ◌++◌, length, take, slice_get, Some, refl, sym, ap, ◌∙◌, arith}
+use Rattle.std.proofs.Common.{append-nil}
 use Rattle.gta_theory.specs.Assignments.{Position, Assignment}
 use Rattle.store_core.specs.declared.ids.CellId.{CellId}
 use Rattle.store_core.specs.declared.value.Value.{Value}
@@ -40,7 +41,8 @@ first-of-all test n [] = refl
 first-of-all test n (x ∷ cells) = by (first-of-all test (suc n) cells) (test x.at)
   where
     by : slice_get (all_where test (suc n) cells) 0 ≡ first_where test (suc n) cells → (b : Bool) →
-        slice_get (cond b (numbered n ∷ all_where test (suc n) cells) (all_where test (suc n) cells)) 0 ≡ cond b (Some (numbered n)) (first_where test (suc n) cells)
+        slice_get (cond b (numbered n ∷ all_where test (suc n) cells) (all_where test (suc n) cells)) 0 ≡ cond b (Some (numbered n))
+        (first_where test (suc n) cells)
     by rest true = refl
     by rest false = rest
 
@@ -62,7 +64,8 @@ module _ (test : Position → Bool) (cells : List Standing) (i number : ℕ) (x 
   named-next b is =
       let long = length-front cells i x at in
       let place : number ≡ 1 + length (take i cells) = omega arith in
-      (λ k. so_far k ++ cond (sym is k) (numbered (place k) ∷ []) []) ∙ sym (all-more test 1 (take i cells) x) ∙ ap (all_where test 1) (sym (take-next cells i x at))
+      (λ k. so_far k ++ cond (sym is k) (numbered (place k) ∷ []) []) ∙ sym (all-more test 1 (take i cells) x) ∙ ap (all_where test 1)
+      (sym (take-next cells i x at))
 
   pub named-yes : test x.at ≡ true → named ++ numbered number ∷ [] ≡ all_where test 1 (take (i + 1) cells)
   named-yes is = named-next true is
@@ -70,7 +73,8 @@ module _ (test : Position → Bool) (cells : List Standing) (i number : ℕ) (x 
   pub named-no : test x.at ≡ false → named ≡ all_where test 1 (take (i + 1) cells)
   named-no is = sym (append-nil named) ∙ named-next false is
 
-pub entries-next : (types : List TypeEntry) (a : Assignment) (cells : List Standing) (i number : ℕ) (x : Standing) (old : List (ℕ × CellEntry)) (e : ℕ × CellEntry) →
+pub entries-next : (types : List TypeEntry) (a : Assignment) (cells : List Standing) (i number : ℕ) (x : Standing) (old : List (ℕ × CellEntry))
+    (e : ℕ × CellEntry) →
     slice_get cells i ≡ Some x → number ≡ suc i → old ≡ entries_in types a cells 1 (take i cells) → e ≡ (number, cell_in types a cells x) →
     old ++ e ∷ [] ≡ entries_in types a cells 1 (take (i + 1) cells)
 entries-next types a cells i number x old e at next so_far is =

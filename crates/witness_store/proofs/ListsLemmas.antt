@@ -1,5 +1,6 @@
 -- On lists: what stands in two lists one after the other, in the first elements, and in the rest.
-use Rattle.std.proofs.Common.{◌≡◌, ◌⊎◌, ℕ, zero, suc, ◌+◌, ◌<◌, true, false, eqb, inl, inr, List, [], ◌∷◌, ◌++◌, length, map, take, drop, slice_get, get_or, Some, refl, sym, ap, ◌∙◌, arith, eqb-true, ne_eqb}
+use Rattle.std.proofs.Common.{◌≡◌, ◌⊎◌, ℕ, zero, suc, ◌+◌, ◌<◌, true, false, eqb, inl, inr, List, [], ◌∷◌, ◌++◌, length, map, take, drop, slice_get, get_or}
+use Rattle.std.proofs.Common.{Some, refl, sym, ap, ◌∙◌, arith, eqb-true, ne_eqb}
 use Rattle.std.specs.List.{list_any}
 use Rattle.std.proofs.lemmas.List.Folds.{Any-from_list_any}
 use Rattle.std.proofs.lemmas.Map.Keys.{IsDistinct-from_apart}
@@ -60,7 +61,8 @@ few-numbers xs n apart below =
     distinct i j d less inside =
         let in_i : i < length xs = omega arith in
         ne_eqb (get_or xs i d) (get_or xs j d) (λ same.
-        let both : i ≡ j = apart i j (get_or xs j d) (slice_get-get_or xs i d in_i ∙ ap (λ x. Some x) same) (slice_get-get_or xs j d inside) in absurd (omega arith))
+        let both : i ≡ j = apart i j (get_or xs j d) (slice_get-get_or xs i d in_i ∙ ap (λ x. Some x) same) (slice_get-get_or xs j d inside) in absurd
+        (omega arith))
 
     each : (q : ℕ) → list_any (eqb q) xs ≡ true → q < n
     each q found =

@@ -1,5 +1,6 @@
 -- A node stands at one position, and at a position stands one node.
-use Rattle.std.proofs.Common.{◌≡◌, ℕ, zero, suc, ◌+◌, ◌<◌, Bool, true, false, List, [], ◌∷◌, ◌++◌, length, slice_get, Option, Some, None, refl, sym, ap, ◌∙◌, subst, arith}
+use Rattle.std.proofs.Common.{◌≡◌, ℕ, zero, suc, ◌+◌, ◌<◌, Bool, true, false, List, [], ◌∷◌, ◌++◌, length, slice_get, Option, Some, None, refl, sym, ap, ◌∙◌}
+use Rattle.std.proofs.Common.{subst, arith}
 use Rattle.std.specs.Option.{option_and_then}
 use Rattle.std.proofs.lemmas.Option.{slice_get_within, same_Some}
 use Rattle.store_core.proofs.FittingLemmas.{IfSome-at}
@@ -78,7 +79,8 @@ module _ (nodes : List TreeNode) (tree : IsTree nodes) where
   -- how a node comes to stand where it does
   data Way (k : ℕ) (p : Position) : Type 0 where
     by_root : suc k ≡ length nodes → p ≡ [] → Way k p
-    by_child : (m : ℕ) (y : TreeNode) (b : Bool) (q : Position) → StandsAt nodes m q → slice_get nodes m ≡ Some y → child_to b y ≡ Some k → p ≡ q ++ b ∷ [] → Way k p
+    by_child : (m : ℕ) (y : TreeNode) (b : Bool) (q : Position) → StandsAt nodes m q → slice_get nodes m ≡ Some y → child_to b y ≡ Some k → p ≡ q ++ b ∷
+        [] → Way k p
 
   way : (k : ℕ) (p : Position) → StandsAt nodes k p → Way k p
   way _ _ (at_root k last) = by_root last refl

@@ -1,5 +1,6 @@
 -- The numbers of the cells, by the places of nodes.
-use Rattle.std.proofs.Common.{◌≡◌, ◌≢◌, ◌⊎◌, ℕ, zero, suc, ◌+◌, ◌<◌, Bool, true, false, cond, eqb, inl, inr, List, [], ◌∷◌, ◌++◌, length, take, slice_get, Option, Some, None, refl, sym, ap, ◌∙◌, subst, arith, eq-eqb, ne_eqb}
+use Rattle.std.proofs.Common.{◌≡◌, ◌≢◌, ◌⊎◌, ℕ, zero, suc, ◌+◌, ◌<◌, Bool, true, false, cond, eqb, inl, inr, List, [], ◌∷◌, ◌++◌, length, take, slice_get}
+use Rattle.std.proofs.Common.{Option, Some, None, refl, sym, ap, ◌∙◌, subst, arith, eq-eqb, ne_eqb}
 use Rattle.std.specs.Prelude.{slice_set}
 use Rattle.std.specs.Option.{option_map_or}
 use Rattle.std.proofs.lemmas.Bool.{cases_eq}
@@ -27,7 +28,8 @@ number_of-push k n [] f = let none : n ≡ n + 0 = omega arith in ap (λ m. cond
 number_of-push k n (g ∷ found) f =
     ap (λ o. option_map_or (λ c. Some c) o (cond (eqb g.node k) (Some (numbered n)) None)) (number_of-push k (suc n) found f) ∙ by (eqb f.node k)
   where
-    by : (b : Bool) → option_map_or (λ c. Some c) (cond b (Some (numbered (suc n + length found))) (number_of k (suc n) found)) (cond (eqb g.node k) (Some (numbered n)) None)
+    by : (b : Bool) → option_map_or (λ c. Some c) (cond b (Some (numbered (suc n + length found))) (number_of k (suc n) found))
+        (cond (eqb g.node k) (Some (numbered n)) None)
         ≡ cond b (Some (numbered (n + suc (length found))))
         (option_map_or (λ c. Some c) (number_of k (suc n) found) (cond (eqb g.node k) (Some (numbered n)) None))
     by true = let next : suc n + length found ≡ n + suc (length found) = omega arith in ap (λ m. Some (numbered m)) next
@@ -126,7 +128,8 @@ module _ (nodes : List TreeNode) (tree : IsTree nodes) where
           flat None = refl
           flat (Some c) = refl
 
-  pub AreRead-found : (types : List TypeEntry) (found : List Found) (cells : List Standing) (numbers : List (Option CellId)) → AreFound types nodes found cells →
+  pub AreRead-found : (types : List TypeEntry) (found : List Found) (cells : List Standing) (numbers : List (Option CellId)) → AreFound types nodes found
+      cells →
       AreNumbers found (length nodes) numbers → AreRead types nodes cells numbers
   AreRead-found types found cells numbers are by_place = record {
     tree = tree;

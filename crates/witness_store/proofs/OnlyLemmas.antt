@@ -8,7 +8,14 @@ module _ (P Q : CellId → Type 0) (alike : (d : CellId) → P d ↔ Q d) where
   IsOnlyCell-alike (Some d) h = ((alike d).0 h.0, λ e q. h.1 e ((alike e).1 q))
   IsOnlyCell-alike None h = elim h [
     | inl none ↦ inl (λ d q. none d ((alike d).1 q))
-    | inr two ↦ inr (record { one = two.one; other = two.other; apart = two.apart; one_is = (alike two.one).0 two.one_is; other_is = (alike two.other).0 two.other_is })
+    | inr two ↦ inr (record {
+      one = two.one;
+      other = two.other;
+      apart = two.apart;
+      one_is = (alike two.one).0 two.one_is;
+      other_is = (alike two.other).0
+          two.other_is;
+    })
   ]
 
 -- there is one answer at most

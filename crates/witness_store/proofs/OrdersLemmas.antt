@@ -1,5 +1,6 @@
 -- The places that wait, and the nodes that follow them.
-use Rattle.std.proofs.Common.{◌≡◌, ℕ, zero, suc, ◌<◌, List, [], ◌∷◌, ◌++◌, length, slice_get, Option, Some, None, IfSome, refl, sym, ap, ◌∙◌, arith, append_assoc, append-nil}
+use Rattle.std.proofs.Common.{◌≡◌, ℕ, zero, suc, ◌<◌, List, [], ◌∷◌, ◌++◌, length, slice_get, Option, Some, None, IfSome, refl, sym, ap, ◌∙◌, arith}
+use Rattle.std.proofs.Common.{append_assoc, append-nil}
 use Rattle.std.specs.Prelude.{option_to_list}
 use Rattle.std.specs.Option.{option_map_or}
 use Rattle.ws2s_core.specs.declared.label_tree.TreeNode.{TreeNode}
@@ -54,7 +55,8 @@ module _ (nodes : List TreeNode) where
     waiting-next waiting k = waiting-push waiting k ∙ ap (λ l. k ∷ l) (by (slice_get nodes k) refl)
       where
         by : (o : Option TreeNode) → slice_get nodes k ≡ o →
-            option_map_or (λ node. option_map_or (places_below nodes k) node.left [] ++ option_map_or (places_below nodes k) node.right []) o [] ++ waiting_for waiting
+            option_map_or (λ node. option_map_or (places_below nodes k) node.left [] ++ option_map_or (places_below nodes k) node.right []) o [] ++
+            waiting_for waiting
             ≡ waiting_for (waiting ++ children_last_first o)
         by None at = sym (ap waiting_for (append-nil waiting))
         by (Some node) at =

@@ -1,5 +1,6 @@
 -- The store of a tree is the store that the tree was made of, but for the names of the cells.
-use Rattle.std.proofs.Common.{◌≡◌, ◌⊎◌, ℕ, suc, Bool, true, false, inl, inr, List, [], ◌∷◌, ◌++◌, slice_get, Option, Some, None, IfSome, Contains, refl, sym, ap, ◌∙◌, subst}
+use Rattle.std.proofs.Common.{◌≡◌, ◌⊎◌, ℕ, suc, Bool, true, false, inl, inr, List, [], ◌∷◌, ◌++◌, slice_get, Option, Some, None, IfSome, Contains, refl, sym}
+use Rattle.std.proofs.Common.{ap, ◌∙◌, subst}
 use Rattle.std.proofs.lemmas.Option.{same_Some}
 use Rattle.std.proofs.lemmas.List.Elements.{All-contains}
 use Rattle.gta_theory.specs.Assignments.{Position, Assignment}
@@ -40,7 +41,8 @@ use Rattle.tree_store.proofs.TablesLemmas.{number_of_var, var-there}
 use Rattle.tree_store.proofs.WordsLemmas.{EndsInZero}
 use Rattle.tree_store.specs.Stores.{IsStoreOf}
 use Rattle.witness_store.specs.Alike.{StandAlike}
-use Rattle.witness_store.proofs.SamePlaceLemmas.{IsLaid, placed-ends, turned, same-one, goes, variant-same, value-there, leads-goes, truth-goes, bool_kind, bool_value}
+use Rattle.witness_store.proofs.SamePlaceLemmas.{IsLaid, placed-ends, turned, same-one, goes, variant-same, value-there, leads-goes, truth-goes, bool_kind}
+use Rattle.witness_store.proofs.SamePlaceLemmas.{bool_value}
 
 -- ---- lists, element by element
 
@@ -160,7 +162,8 @@ module _ (types : List TypeEntry) (vars : List VarEntry) (a : Assignment) where
         of-some (λ e. e.variant.ty ≡ ty) (cell_of t d) other also
         (sym (ap (λ (v : VariantId). v.ty) (variant-same types vars a s t S T b d cell other h at also)) ∙ is)
 
-    ends-goes : (kind : FieldKind) (b c d e : CellId) → StandAlike types vars s t b d → StandAlike types vars s t c e → EndsKind types s kind b c → EndsKind types t kind d e
+    ends-goes : (kind : FieldKind) (b c d e : CellId) → StandAlike types vars s t b d → StandAlike types vars s t c e → EndsKind types s kind b c →
+        EndsKind types t kind d e
     ends-goes field.Bool b c d e h k ends = ends
     ends-goes (field.Data ty) b c d e h k ends = ends
     ends-goes (field.Pointer ty along) b c d e h k ends = record {
@@ -301,8 +304,12 @@ module _ (types : List TypeEntry) (vars : List VarEntry) (a : Assignment) where
         elim ((T.assignment.tracks (of_var v) (track_at (number_of_var types v)) one.position track).0 on) [
           | inl root ↦ absurd (not_root (subst EndsInZero root.0 (placed-ends types vars a s b one.position one.placed)))
           | inr found ↦
-              let (z, is, named) = IsSomeAnd-at (var_value t v) (λ w. NamesCell w found.0) found.2 in
-              (found.0, subst (λ w. NamesCell w found.0) (same_Some z y (sym is ∙ also)) named, record { position = one.position; one = one.placed; other = found.1 })
+              let (z, is, named) = IsSomeAnd-at (var_value t v) (λ w. NamesCell w found.0) found.2 in (
+                found.0,
+                subst (λ w. NamesCell w found.0) (same_Some z y (sym is ∙ also)) named,
+                record
+                    { position = one.position; one = one.placed; other = found.1 },
+              )
         ]
 
   -- null or a live cell of a type
@@ -340,7 +347,8 @@ module _ (types : List TypeEntry) (vars : List VarEntry) (a : Assignment) where
           | inr e ↦ held_live u ty c (subst (λ k. VarHoldsLive u k (value.Cell (Some c))) e holds)
         ]
 
-    truth-paired : (v : VarId) (entry : VarEntry) (b c : Bool) → var_at vars v ≡ Some entry → var_value s v ≡ Some (value.Bool b) → var_value t v ≡ Some (value.Bool c) → b ≡ c
+    truth-paired : (v : VarId) (entry : VarEntry) (b c : Bool) → var_at vars v ≡ Some entry → var_value s v ≡ Some (value.Bool b) → var_value t v ≡ Some
+        (value.Bool c) → b ≡ c
     truth-paired v entry b c there held also =
         same_bool b c
         (λ e. some_bool (var_value t v) c true also (root-goes s t S T v entry there (held ∙ ap (λ w. Some (value.Bool w)) e)))
@@ -379,11 +387,13 @@ module _ (types : List TypeEntry) (vars : List VarEntry) (a : Assignment) where
       fit_too.0,
       λ c member. names-goes s t S T v entry (value.Cells o) (value.Cells p) c there held also member (set-live s S v entry ty o there is held c member),
       λ e member.
-          let (c, names, alike) = names-goes t s T S v entry (value.Cells p) (value.Cells o) e there also held member (set-live t T v entry ty p there is also e member) in
+          let (c, names, alike) = names-goes t s T S v entry (value.Cells p) (value.Cells o) e there also held member
+          (set-live t T v entry ty p there is also e member) in
           (c, names, turned types vars a t s e c alike),
     )
 
-    pub ArePaired-laid : ((c : CellId) (f : FieldId) → IsPointerField types f → IfSome (field_value s c f) (IsOnlyDestination types s c f)) → ArePointersSet types t →
+    pub ArePaired-laid : ((c : CellId) (f : FieldId) → IsPointerField types f → IfSome (field_value s c f) (IsOnlyDestination types s c f)) →
+        ArePointersSet types t →
         ArePaired (StandAlike types vars s t) s t
     ArePaired-laid right set = record {
       one = λ b c d h k. same-one types vars a s t S T b c d h k;
@@ -402,7 +412,8 @@ module _ (types : List TypeEntry) (vars : List VarEntry) (a : Assignment) where
 
 -- ---- the law
 
-pub ArePaired-decoded : (types : List TypeEntry) (vars : List VarEntry) (s t : StoreMap) (nodes : List TreeNode) → IsWellFormed types vars s → IsTreeOf types vars s nodes →
+pub ArePaired-decoded : (types : List TypeEntry) (vars : List VarEntry) (s t : StoreMap) (nodes : List TreeNode) → IsWellFormed types vars s → IsTreeOf
+    types vars s nodes →
     IsStoreOf types vars (assignment_of nodes) t → ArePointersSet types t → ArePaired (StandAlike types vars s t) s t
 ArePaired-decoded types vars s t nodes well tree of set =
     ArePaired-laid types vars (assignment_of nodes) s t

@@ -1,5 +1,6 @@
 -- What stands at positions, by the places of their nodes.
-use Rattle.std.proofs.Common.{◌≡◌, ℕ, ◌+◌, true, false, IsTrue, List, [], ◌∷◌, ◌++◌, length, slice_get, Option, Some, None, refl, sym, ap, ◌∙◌, subst, arith, append_assoc, append-nil}
+use Rattle.std.proofs.Common.{◌≡◌, ℕ, ◌+◌, true, false, IsTrue, List, [], ◌∷◌, ◌++◌, length, slice_get, Option, Some, None, refl, sym, ap, ◌∙◌, subst, arith}
+use Rattle.std.proofs.Common.{append_assoc, append-nil}
 use Rattle.std.specs.Option.{option_map_or, option_and_then}
 use Rattle.std.proofs.lemmas.Bool.{false≢true}
 use Rattle.store_core.proofs.FittingLemmas.{IsSomeAnd-at}
@@ -61,7 +62,8 @@ root-node [] = λ t q. refl
 root-node (x ∷ xs) = at_root (0 + length xs) (omega arith)
 
 -- the cell at a position, by its number
-pub cell-number : (types : List TypeEntry) (nodes : List TreeNode) (cells : List Standing) (numbers : List (Option CellId)) → AreRead types nodes cells numbers →
+pub cell-number : (types : List TypeEntry) (nodes : List TreeNode) (cells : List Standing) (numbers : List (Option CellId)) → AreRead types nodes cells
+    numbers →
     (q : Position) (place : Option ℕ) → IsNodeAt nodes q place → number_in numbers place ≡ first_where (is_same_position q) 1 cells
 cell-number types nodes cells numbers are q None none =
     sym (none-where (is_same_position q) 1 cells (λ i x at. same_position-false q x.at (λ e.

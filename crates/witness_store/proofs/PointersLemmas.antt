@@ -52,7 +52,8 @@ module _ (types : List TypeEntry) (vars : List VarEntry) (s t : StoreMap) (fits 
       set_alike entry.kind x (IfSome-at (var_value s v) _ x (sym (var_alike types s t k v) ∙ held) (IfSome-at (var_at vars v) _ entry there (h v)))))
 
 -- the store with its pointer fields set
-pub IsStoreOf-alike : (types : List TypeEntry) (vars : List VarEntry) (a : Assignment) (s t : StoreMap) → IsStoreOf types vars a s → IsSameButPointers types s t →
+pub IsStoreOf-alike : (types : List TypeEntry) (vars : List VarEntry) (a : Assignment) (s t : StoreMap) → IsStoreOf types vars a s → IsSameButPointers
+    types s t →
     Fits types vars t → IsFresh t → IsStoreOf types vars a t
 IsStoreOf-alike types vars a s t of k fits fresh =
     let back = alike_turned types s t k in
@@ -71,5 +72,6 @@ IsStoreOf-alike types vars a s t of k fits fresh =
         λ live. let both = (of.numbers c).0 (live_alike types t s back c live) in (both.0, subst (λ n. c.0 < n) (sym k.next) both.1),
         λ both. live_alike types s t k c ((of.numbers c).1 (both.0, subst (λ n. c.0 < n) k.next both.1)),
       );
-      order = λ c d p q of_c of_d. of.order c d p q (placed_alike types vars t s fits.cells back c p of_c) (placed_alike types vars t s fits.cells back d q of_d);
+      order = λ c d p q of_c of_d. of.order c d p q (placed_alike types vars t s fits.cells back c p of_c)
+          (placed_alike types vars t s fits.cells back d q of_d);
     }

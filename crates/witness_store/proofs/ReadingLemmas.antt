@@ -1,5 +1,6 @@
 -- What the tracks of a node say of the position at which it stands.
-use Rattle.std.proofs.Common.{◌≡◌, ℕ, suc, ◌+◌, ◌<◌, true, false, List, [], ◌∷◌, ◌++◌, length, slice_get, Option, Some, None, refl, sym, ap, ◌∙◌, subst, arith, append_assoc, append-nil}
+use Rattle.std.proofs.Common.{◌≡◌, ℕ, suc, ◌+◌, ◌<◌, true, false, List, [], ◌∷◌, ◌++◌, length, slice_get, Option, Some, None, refl, sym, ap, ◌∙◌, subst, arith}
+use Rattle.std.proofs.Common.{append_assoc, append-nil}
 use Rattle.std.proofs.lemmas.Bool.{false≢true}
 use Rattle.std.proofs.lemmas.Option.{slice_get_within}
 use Rattle.store_core.proofs.FittingLemmas.{IfSome-at}
@@ -21,7 +22,8 @@ module _ (nodes : List TreeNode) (tree : IsTree nodes) where
       let before = IfSome-at y.right (λ c. c < k) j child (tree.right_before k y at) in omega arith
 
   -- the node that stands at the position has the tracks that hold it
-  pub tracks-at : (k : ℕ) (p : Position) (x : TreeNode) → StandsAt nodes k p → slice_get nodes k ≡ Some x → (t : ℕ) → assignment_of nodes t p ≡ label_of x.tracks t
+  pub tracks-at : (k : ℕ) (p : Position) (x : TreeNode) → StandsAt nodes k p → slice_get nodes k ≡ Some x → (t : ℕ) → assignment_of nodes t p ≡ label_of
+      x.tracks t
   tracks-at k p x above at t =
       ap (assignment_of nodes t) (sym (append-nil p)) ∙ below-position nodes tree k p above t [] ∙ (λ i. label-at nodes k x at i t)
 
@@ -29,14 +31,16 @@ module _ (nodes : List TreeNode) (tree : IsTree nodes) where
   no_child t q e = false≢true e
 
   left_found : (q : Position) (k : ℕ) (p : Position) (t : ℕ) (x : TreeNode) → StandsAt nodes k p → slice_get nodes k ≡ Some x → (o : Option ℕ) → x.left ≡ o →
-      child_at nodes o t q ≡ true → ((j : ℕ) → StandsAt nodes j (p ++ false ∷ []) → assignment_at nodes j t q ≡ true → (m : ℕ) × StandsAt nodes m ((p ++ false ∷ []) ++ q)) →
+      child_at nodes o t q ≡ true → ((j : ℕ) → StandsAt nodes j (p ++ false ∷ []) → assignment_at nodes j t q ≡ true → (m : ℕ) × StandsAt nodes m
+      ((p ++ false ∷ []) ++ q)) →
       (j : ℕ) × StandsAt nodes j (p ++ (false ∷ q))
   left_found q k p t x above at None is on rest = absurd (no_child t q on)
   left_found q k p t x above at (Some j) is on rest =
       let found = rest j (at_left k j x p above at is) on in (found.0, subst (StandsAt nodes found.0) (append_assoc p (false ∷ []) q) found.1)
 
   right_found : (q : Position) (k : ℕ) (p : Position) (t : ℕ) (x : TreeNode) → StandsAt nodes k p → slice_get nodes k ≡ Some x → (o : Option ℕ) → x.right ≡ o →
-      child_at nodes o t q ≡ true → ((j : ℕ) → StandsAt nodes j (p ++ true ∷ []) → assignment_at nodes j t q ≡ true → (m : ℕ) × StandsAt nodes m ((p ++ true ∷ []) ++ q)) →
+      child_at nodes o t q ≡ true → ((j : ℕ) → StandsAt nodes j (p ++ true ∷ []) → assignment_at nodes j t q ≡ true → (m : ℕ) × StandsAt nodes m
+      ((p ++ true ∷ []) ++ q)) →
       (j : ℕ) × StandsAt nodes j (p ++ (true ∷ q))
   right_found q k p t x above at None is on rest = absurd (no_child t q on)
   right_found q k p t x above at (Some j) is on rest =

@@ -1,5 +1,6 @@
 -- Two stores of one assignment: cells at one position are of one variant and lead to cells at one position.
-use Rattle.std.proofs.Common.{◌≡◌, ◌⊎◌, ℕ, zero, suc, Bool, true, false, cond, inl, inr, List, [], ◌∷◌, ◌++◌, slice_get, unwrap_or, ◌+◌, take, eq-eqb, Option, Some, None, IsSomeAnd, refl, sym, ap, ◌∙◌, subst}
+use Rattle.std.proofs.Common.{◌≡◌, ◌⊎◌, ℕ, zero, suc, Bool, true, false, cond, inl, inr, List, [], ◌∷◌, ◌++◌, slice_get, unwrap_or, ◌+◌, take, eq-eqb, Option}
+use Rattle.std.proofs.Common.{Some, None, IsSomeAnd, refl, sym, ap, ◌∙◌, subst}
 use Rattle.std.specs.Option.{option_and_then}
 use Rattle.std.proofs.lemmas.Option.{same_Some}
 use Rattle.gta_theory.specs.Assignments.{Position, Assignment}
@@ -137,7 +138,8 @@ module _ (types : List TypeEntry) (vars : List VarEntry) (a : Assignment) where
         (cell-marked types vars t a T.fits T.assignment d other h.position also h.other)
 
     -- a field that one of them has, the other has
-    pub value-there : (b d : CellId) (f : FieldId) (x : Value) → StandAlike types vars s t b d → field_value s b f ≡ Some x → (y : Value) × (field_value t d f ≡ Some y)
+    pub value-there : (b d : CellId) (f : FieldId) (x : Value) → StandAlike types vars s t b d → field_value s b f ≡ Some x → (y : Value) ×
+        (field_value t d f ≡ Some y)
     value-there b d f x h held =
         let (cell, at, typed) = own_type s b f x held in
         let (other, also) = known (cell_of t d) (placed-live types vars t d h.position h.other) in
@@ -165,7 +167,8 @@ module _ (types : List TypeEntry) (vars : List VarEntry) (a : Assignment) where
             ap (λ b. cond b (option_and_then (λ (v : Option Value). v) (slice_get cell.values f.index)) None)
             (eq-eqb cell.variant.ty.0 f.ty.0 (ap (λ (ty : TypeId). ty.0) typed)) ∙ slot
 
-    type-same : (b d : CellId) (f g : FieldId) (x y : Value) → StandAlike types vars s t b d → field_value s b f ≡ Some x → field_value t d g ≡ Some y → f.ty ≡ g.ty
+    type-same : (b d : CellId) (f g : FieldId) (x y : Value) → StandAlike types vars s t b d → field_value s b f ≡ Some x → field_value t d g ≡ Some y →
+        f.ty ≡ g.ty
     type-same b d f g x y h held also =
         let (cell, at, typed) = own_type s b f x held in
         let (other, found, sort) = own_type t d g y also in
@@ -179,7 +182,8 @@ module _ (types : List TypeEntry) (vars : List VarEntry) (a : Assignment) where
         let (e, also) = at-place c (child_of (unwrap_or (child_number types f) 0) h.position) placed in
         (e, record { position = child_of (unwrap_or (child_number types f) 0) h.position; one = placed; other = also }, led e also)
       where
-        number : (g : FieldId) (kind : IsSomeAnd (field_at types g) (λ e. IsFollowed DataAlone e.kind)) → child_number types g ≡ Some (unwrap_or (child_number types g) 0)
+        number : (g : FieldId) (kind : IsSomeAnd (field_at types g) (λ e. IsFollowed DataAlone e.kind)) → child_number types g ≡ Some
+            (unwrap_or (child_number types g) 0)
         number g kind =
             let (entry, there, followed) = IsSomeAnd-at (field_at types g) (λ e. IsFollowed DataAlone e.kind) kind in
             let (ty, is) = data_field entry.kind followed in
@@ -224,13 +228,15 @@ module _ (types : List TypeEntry) (vars : List VarEntry) (a : Assignment) where
                 subst (λ g. Leads types t DataAlone g d e) (sym (same_field more.last step.kind typed both.0)) step
 
     -- a bool field is true in both
-    pub truth-goes : (b d : CellId) (f : FieldId) → StandAlike types vars s t b d → field_value s b f ≡ Some (value.Bool true) → field_value t d f ≡ Some (value.Bool true)
+    pub truth-goes : (b d : CellId) (f : FieldId) → StandAlike types vars s t b d → field_value s b f ≡ Some (value.Bool true) → field_value t d f ≡ Some
+        (value.Bool true)
     truth-goes b d f h held =
         let slot = slot_at_value types vars s S.fits b f (value.Bool true) held in
         let kind = bool_kind s slot.entry.kind true slot.fits in
         let n = variants_in types + (bools_in (take f.ty.0 types) + rank Bools types f) in
         let track : bool_track types f ≡ Some (track_at n) =
-        ap (option_and_then (λ entry. cond (is_counted Bools entry) (Some (track_at n)) None)) slot.at ∙ ap (λ k. cond (counts Bools k) (Some (track_at n)) None) kind in
+        ap (option_and_then (λ entry. cond (is_counted Bools entry) (Some (track_at n)) None)) slot.at ∙ ap
+        (λ k. cond (counts Bools k) (Some (track_at n)) None) kind in
         let on = (S.assignment.tracks (of_bool f) (track_at n) h.position track).1 (inr (b, h.one, held)) in
         elim ((T.assignment.tracks (of_bool f) (track_at n) h.position track).0 on) [
           | inl root ↦ absurd root.1

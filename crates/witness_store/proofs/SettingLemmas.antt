@@ -92,7 +92,8 @@ fits_to types s t k x is = by (field_at types x.field) is.kind (λ d e. dest x.t
     by (Some entry) pointer ends = fits_kind types s t k x.cell entry.kind x.to pointer ends
 
 -- a pointer field holds null or a cell
-holds_cell : (t : StoreMap) (kind : FieldKind) (old : Value) → IsPointer kind → FieldFits t kind old → (o : Option CellId) → class_of (value.Cell o) ≡ class_of old
+holds_cell : (t : StoreMap) (kind : FieldKind) (old : Value) → IsPointer kind → FieldFits t kind old → (o : Option CellId) → class_of (value.Cell o) ≡
+    class_of old
 holds_cell t field.Bool old pointer fit o = absurd pointer
 holds_cell t (field.Data target) old pointer fit o = absurd pointer
 holds_cell t (field.Pointer target along) (value.Bool b) pointer fit o = absurd fit
@@ -191,7 +192,8 @@ module _ (types : List TypeEntry) (s : StoreMap) (found : List Pointing) (all : 
     variants = is_set.variants;
     fields = λ c f not. others c f (λ same e. not (subst (IsPointerField types) (sym e) is.kind));
     pointers = λ c f. elim (place_cases c x.cell f x.field) [
-      | inl same ↦ both c f (subst (λ d. IsSome (field_value u d f)) (sym same.0) (subst (λ g. IsSome (field_value u x.cell g)) (sym same.1) (ap is_some is_set.value)))
+      | inl same ↦ both c f (subst (λ d. IsSome (field_value u d f)) (sym same.0)
+          (subst (λ g. IsSome (field_value u x.cell g)) (sym same.1) (ap is_some is_set.value)))
           (subst (λ d. IsSome (field_value t d f)) (sym same.0) (subst (λ g. IsSome (field_value t x.cell g)) (sym same.1) has))
       | inr apart ↦ ap is_some (others c f apart)
     ];

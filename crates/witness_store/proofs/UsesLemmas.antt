@@ -1,5 +1,6 @@
 -- Each track of a layout is that of a variant, a bool field or a variable.
-use Rattle.std.proofs.Common.{◌≡◌, ℕ, zero, suc, ◌+◌, ◌<◌, Bool, true, false, cond, nat_lt, IsTrue, ◌↔◌, inl, inr, List, [], ◌∷◌, ◌++◌, length, map, take, slice_get, Some, None, refl, sym, ap, ◌∙◌, arith, length-append}
+use Rattle.std.proofs.Common.{◌≡◌, ℕ, zero, suc, ◌+◌, ◌<◌, Bool, true, false, cond, nat_lt, IsTrue, ◌↔◌, inl, inr, List, [], ◌∷◌, ◌++◌, length, map, take}
+use Rattle.std.proofs.Common.{slice_get, Some, None, refl, sym, ap, ◌∙◌, arith, length-append}
 use Rattle.std.specs.Prelude.{count_by}
 use Rattle.std.specs.Option.{option_map_or, option_and_then}
 use Rattle.std.proofs.lemmas.Bool.Decides.{nat_tests}
@@ -13,7 +14,8 @@ use Rattle.store_core.specs.Tables.{TypeEntry, FieldEntry, VarEntry, fields_of, 
 use Rattle.store_core.specs.Stores.{StoreMap}
 use Rattle.tree_encode.specs.declared.counting.Counted.TheVariants.{Bools}
 use Rattle.tree_encode.specs.Counting.{is_counted, counted_in, rank, variants_in, bools_in}
-use Rattle.tree_encode.specs.Tracks.{TrackUse, of_variant, of_bool, of_var, variants_from, bools_at, bools_from, vars_from, tracks_of, track_count, track_at, bool_track, var_track}
+use Rattle.tree_encode.specs.Tracks.{TrackUse, of_variant, of_bool, of_var, variants_from, bools_at, bools_from, vars_from, tracks_of, track_count, track_at}
+use Rattle.tree_encode.specs.Tracks.{bool_track, var_track}
 use Rattle.tree_encode.proofs.TracksLemmas.{length-tracks_of}
 use Rattle.tree_store.specs.Encoding.{track_of, IsAssignmentOf}
 use Rattle.witness_store.specs.Alike.{AreSameBelow}
@@ -105,7 +107,8 @@ bool-from m (t ∷ types) k f at = elim (appended (bools_at m 0 t.fields) (bools
         at = ap (slice_get t.fields) index ∙ h.there;
         counted = h.counted;
         number = type_is ∙ none;
-        place = h.number ∙ ap (λ i. count_by (is_counted Bools) (take i t.fields)) (sym index) ∙ sym (zero_more (count_by (is_counted Bools) (take f.index t.fields)));
+        place = h.number ∙ ap (λ i. count_by (is_counted Bools) (take i t.fields)) (sym index) ∙ sym
+            (zero_more (count_by (is_counted Bools) (take f.index t.fields)));
       }
   | inr back ↦
       let rest = bool-from (suc m) types back.0 f back.2 in
@@ -129,7 +132,8 @@ bool-from m (t ∷ types) k f at = elim (appended (bools_at m 0 t.fields) (bools
     zero_more : (n : ℕ) → 0 + n ≡ n
     zero_more n = omega arith
 
-bool-listed : (types : List TypeEntry) (k : ℕ) (f : FieldId) → slice_get (bools_from 0 types) k ≡ Some f → bool_track types f ≡ Some (track_at (variants_in types + k))
+bool-listed : (types : List TypeEntry) (k : ℕ) (f : FieldId) → slice_get (bools_from 0 types) k ≡ Some f → bool_track types f ≡ Some
+    (track_at (variants_in types + k))
 bool-listed types k f at =
     let h = bool-from 0 types k f at in
     let type : f.ty.0 ≡ h.type = (let e = h.number in omega arith) in
@@ -173,7 +177,8 @@ used types vars n less =
     let long = length-tracks_of types vars in
     let (what, at) = present (tracks_of types vars) n (omega arith) in
     elim (appended (map of_variant (variants_from 0 types)) (map of_bool (bools_from 0 types) ++ map of_var (vars_from 0 vars)) n what at) [
-      | inl one ↦ let (v, listed, is) = mapped-at of_variant (variants_from 0 types) n what one in record { what = of_variant v; track = listed-track types n v listed }
+      | inl one ↦ let (v, listed, is) = mapped-at of_variant (variants_from 0 types) n what one in record
+          { what = of_variant v; track = listed-track types n v listed }
       | inr later ↦
           let count = length-map (variants_from 0 types) of_variant ∙ length-variants_from 0 types in
           let past = later.1 in

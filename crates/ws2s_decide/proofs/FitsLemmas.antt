@@ -13,7 +13,8 @@ use Rattle.ws2s_core.specs.declared.formula.Formula.TheVariants.{And, Not, Ex2}
 use Rattle.ws2s_core.proofs.FormulaLemmas.{formula-induction}
 use Rattle.ws2s_core.proofs.RecognisingLemmas.{Recognises-Not}
 use Rattle.ws2s_theory.specs.Peaks.{HasMinimalSize, HasPeak}
-use Rattle.ws2s_theory.proofs.PeaksLemmas.{HasPeak-Sub, HasPeak-Single, HasPeak-Succ0, HasPeak-Succ1, HasPeak-Root, HasPeak-And, HasPeak-Not, HasPeak-Ex2, HasPeak-exists}
+use Rattle.ws2s_theory.proofs.PeaksLemmas.{HasPeak-Sub, HasPeak-Single, HasPeak-Succ0, HasPeak-Succ1, HasPeak-Root, HasPeak-And, HasPeak-Not, HasPeak-Ex2}
+use Rattle.ws2s_theory.proofs.PeaksLemmas.{HasPeak-exists}
 use Rattle.ws2s_theory.proofs.SizesLemmas.{HasMinimalSize-exists, HasProductSize-exists, HasSubsetSize-exists, HasMinimalSize-unique}
 use Rattle.ws2s_decide.specs.Tasks.{Step, visit, negate, conjoin, quantify, HasSum, more, Fits}
 
@@ -55,7 +56,8 @@ module _ (g : Spaces) (guide : IsGuide g) where
             parts = size.parts;
             all_pairs = size.all_pairs;
             all_parts = record {
-              every = λ part is. (size.all_parts).every part (IsPart-same (complement of_f.automaton) of_f.automaton (Has of_f.states) (λ t p q. refl) s part is);
+              every = λ part is. (size.all_parts).every part
+                  (IsPart-same (complement of_f.automaton) of_f.automaton (Has of_f.states) (λ t p q. refl) s part is);
               only = λ part there. IsPart-same of_f.automaton (complement of_f.automaton) (Has of_f.states) (λ t p q. refl) s part
                   ((size.all_parts).only part there);
               once = (size.all_parts).once;

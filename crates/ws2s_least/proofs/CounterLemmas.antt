@@ -1,5 +1,6 @@
 -- An automaton that counts the weight of an assignment up to a bound, and whether an automaton accepts anything.
-use Rattle.std.proofs.Common.{◌≡◌, ◌⊎◌, inl, inr, ◌+◌, ◌<◌, ◌≤◌, ℕ, zero, suc, min, max, nat_lt, Bool, true, false, cond, List, [], ◌∷◌, refl, sym, ap, ap₂, ◌∙◌, arith}
+use Rattle.std.proofs.Common.{◌≡◌, ◌⊎◌, inl, inr, ◌+◌, ◌<◌, ◌≤◌, ℕ, zero, suc, min, max, nat_lt, Bool, true, false, cond, List, [], ◌∷◌, refl, sym, ap, ap₂}
+use Rattle.std.proofs.Common.{◌∙◌, arith}
 use Rattle.std.proofs.lemmas.Bool.{cases_lt, lt-ltb, ltb-true, false≢true}
 use Rattle.labels.specs.Labels.{Label, empty_label}
 use Rattle.gta_theory.specs.Assignments.{Assignment, Covers, half, root_label, empty_assignment}

@@ -50,7 +50,8 @@ module _ (f : Formula) (tracks : List ℕ) (M : Automaton ℕ) (count : ℕ → 
       let (P, counts_P, pair, product) = IsProduct-exists plain M (counter tracks w) count (counts tracks w) (k + bound tracks) plain-guide
       minimal.minimal.stable closed looks-on (stable-counter tracks w plain) (closed-counter tracks w plain)
       (looks-counter tracks w plain (k + bound tracks) (omega arith)) in
-      let both = Accepts-product plain plain-guide M (counter tracks w) minimal.minimal.stable (stable-counter tracks w plain) P (Below counts_P) pair product in
+      let both = Accepts-product plain plain-guide M (counter tracks w) minimal.minimal.stable (stable-counter tracks w plain) P (Below counts_P) pair
+      product in
       elim (accepts-decided plain plain-guide P counts_P product.reached) as (λ _. IsLightEnough w ⊎ HasLighter w) [
         | inl (n, b, covers, accepts) ↦
             (let parts = (both b).0 accepts in

@@ -1,5 +1,6 @@
 -- The formula of leaks.
-use Rattle.std.proofs.Common.{◌≡◌, ◌↔◌, ◌⊎◌, inl, inr, ℕ, suc, ◌<◌, ◌≤◌, Bool, true, false, cond, IsTrue, IsSomeAnd, List, [], ◌∷◌, ◌++◌, flat_map, Option, Some, None, Contains, refl, sym, ap, ◌∙◌, subst, arith}
+use Rattle.std.proofs.Common.{◌≡◌, ◌↔◌, ◌⊎◌, inl, inr, ℕ, suc, ◌<◌, ◌≤◌, Bool, true, false, cond, IsTrue, IsSomeAnd, List, [], ◌∷◌, ◌++◌, flat_map, Option}
+use Rattle.std.proofs.Common.{Some, None, Contains, refl, sym, ap, ◌∙◌, subst, arith}
 use Rattle.std.specs.Prelude.{IsSome}
 use Rattle.std.proofs.lemmas.Bool.{false≢true}
 use Rattle.gta_theory.specs.Assignments.{Position, PositionSet, Assignment, IsFiniteSet, IsOnly, replace}
@@ -244,7 +245,8 @@ module _ (l : LaidOut) (view : View) (a : Assignment) (first s : StoreMap) (at :
       let found = leak_set l.types l.vars s c leaked in
       let test = λ (d : CellId). is_kept (cell_of s d) (has_number found.cells d.0) in
       let g = ground l view a first s s at count wells.shows in
-      let live-in : (d : CellId) → IsLive s d → test d ≡ true → Contains found.cells d = λ d live so. in_number found.cells d (kept-live (cell_of s d) (has_number found.cells d.0) live so) in
+      let live-in : (d : CellId) → IsLive s d → test d ≡ true → Contains found.cells d = λ d live so. in_number found.cells d
+      (kept-live (cell_of s d) (has_number found.cells d.0) live so) in
       let in-test : (d : CellId) → (IsLive s d → Contains found.cells d) → test d ≡ true = λ d inside.
       live-kept (cell_of s d) (has_number found.cells d.0) (λ live. number_in found.cells d (inside live)) in
       let (p, here) = g.there c found.shows.live in (

@@ -1,5 +1,6 @@
 -- Pairs of listed things, in order.
-use Rattle.std.proofs.Common.{◌≡◌, ◌⊎◌, inl, inr, ℕ, zero, suc, ◌<◌, ◌≤◌, Bool, true, false, cond, List, [], ◌∷◌, ◌++◌, map, length, slice_get, Option, Some, None, Contains, refl, sym, ap, ◌∙◌, subst, arith, length-append, ◌+◌}
+use Rattle.std.proofs.Common.{◌≡◌, ◌⊎◌, inl, inr, ℕ, zero, suc, ◌<◌, ◌≤◌, Bool, true, false, cond, List, [], ◌∷◌, ◌++◌, map, length, slice_get, Option, Some}
+use Rattle.std.proofs.Common.{None, Contains, refl, sym, ap, ◌∙◌, subst, arith, length-append, ◌+◌}
 use Rattle.std.specs.Prelude.{filter}
 use Rattle.std.proofs.lemmas.Bool.{false≢true, cases_lt}
 use Rattle.std.proofs.lemmas.Option.{slice_get_within}
@@ -57,25 +58,26 @@ passing-inside {X} {Y} test pair (x ∷ xs) g h = by (λ k. shifted test pair x 
     by : (Contains (pairs pair (filter test xs)) g → IsPassingPair test pair (x ∷ xs) g) → (t : Bool) → test x ≡ t →
         Contains (pairs pair (cond t (x ∷ filter test xs) (filter test xs))) g → IsPassingPair test pair (x ∷ xs) g
     by rest false fails k = rest k
-    by rest true so k = elim (Contains-append_cases (map (pair x) (filter test xs)) (pairs pair (filter test xs)) g k) as (λ _. IsPassingPair test pair (x ∷ xs) g) [
-      | inl here ↦ (
-          let (y, among, is) = Contains-mapped (pair x) (filter test xs) g here in
-          let (inside, y_so) = filter-inside test xs y among in
-          let (n, at) = at_in xs y inside in
-          record {
-            i = 0;
-            j = suc n;
-            less = omega arith;
-            one = x;
-            other = y;
-            at_one = refl;
-            at_other = at;
-            one_so = so;
-            other_so = y_so;
-            is = is;
-          })
-      | inr later ↦ rest later
-    ]
+    by rest true so k = elim (Contains-append_cases (map (pair x) (filter test xs)) (pairs pair (filter test xs)) g k) as
+        (λ _. IsPassingPair test pair (x ∷ xs) g) [
+          | inl here ↦ (
+              let (y, among, is) = Contains-mapped (pair x) (filter test xs) g here in
+              let (inside, y_so) = filter-inside test xs y among in
+              let (n, at) = at_in xs y inside in
+              record {
+                i = 0;
+                j = suc n;
+                less = omega arith;
+                one = x;
+                other = y;
+                at_one = refl;
+                at_other = at;
+                one_so = so;
+                other_so = y_so;
+                is = is;
+              })
+          | inr later ↦ rest later
+        ]
 
 pub inside-passing : {X Y : Type 0} (test : X → Bool) (pair : X → X → Y) (xs : List X) (i j : ℕ) (x y : X) → i < j → slice_get xs i ≡ Some x →
     slice_get xs j ≡ Some y → test x ≡ true → test y ≡ true → Contains (pairs pair (filter test xs)) (pair x y)
@@ -199,7 +201,8 @@ inside-values pair (v ∷ vars) [] i j u w less one other = (let none : None ≡
 inside-values pair (v ∷ vars) (x ∷ syms) zero zero u w less one other = absurd (omega (arith, less))
 inside-values pair (v ∷ vars) (x ∷ syms) (suc i) zero u w less one other = absurd (omega (arith, less))
 inside-values {Y} pair (v ∷ vars) (x ∷ syms) zero (suc j) u w less one other =
-    by v.kind (subst (λ y. Contains (data_value v.kind y) u) (sym sym_is) (subst (λ (e : VarEntry). Contains (data_value e.kind one.sym_of) u) (sym entry_is) one.one))
+    by v.kind (subst (λ y. Contains (data_value v.kind y) u) (sym sym_is)
+    (subst (λ (e : VarEntry). Contains (data_value e.kind one.sym_of) u) (sym entry_is) one.one))
   where
     entry_is : v ≡ one.entry
     entry_is = (let at : Some v ≡ Some one.entry = one.there in cc)

@@ -1,5 +1,6 @@
 -- The formula of shared cells.
-use Rattle.std.proofs.Common.{◌≡◌, ◌≢◌, ◌↔◌, ◌⊎◌, inl, inr, ℕ, suc, ◌<◌, ◌≤◌, true, false, IsTrue, IsSomeAnd, List, [], ◌∷◌, ◌++◌, map, flat_map, length, slice_get, Option, Some, None, Contains, refl, sym, ap, ◌∙◌, subst, arith}
+use Rattle.std.proofs.Common.{◌≡◌, ◌≢◌, ◌↔◌, ◌⊎◌, inl, inr, ℕ, suc, ◌<◌, ◌≤◌, true, false, IsTrue, IsSomeAnd, List, [], ◌∷◌, ◌++◌, map, flat_map, length}
+use Rattle.std.proofs.Common.{slice_get, Option, Some, None, Contains, refl, sym, ap, ◌∙◌, subst, arith}
 use Rattle.std.specs.Option.{option_map_or}
 use Rattle.std.proofs.lemmas.Bool.{cases_order}
 use Rattle.std.proofs.lemmas.List.Elements.{Contains-append_left, Contains-append_right, Contains-append_cases}
@@ -134,7 +135,8 @@ module _ (l : LaidOut) (view : View) (a : Assignment) (first s : StoreMap) (at :
         WSat (edge l.types sight m x next) d ↔ ((e : CellId) × IsAt at e r × IsParent l.types s e c)
     edge-to r m x d agreed enough below behind only also =
         let g = ground l view a first s s at count wells.shows in
-        let means = edge-means l.types sight count a s s at g (by_data l view a first s s at count wells.shows) d m x next r p agreed enough below behind only also in (
+        let means = edge-means l.types sight count a s s at g (by_data l view a first s s at count wells.shows) d m x next r p agreed enough below behind
+        only also in (
           (λ h.
               let (e, f, at_r, at_p, parent) = means.0 h in
               (e, at_r, subst (λ k. IsParent l.types s e k) (g.apart f c p at_p here) parent)),
@@ -158,7 +160,8 @@ module _ (l : LaidOut) (view : View) (a : Assignment) (first s : StoreMap) (at :
     two-means : WSat (two_above l.types sight n next) bound ↔ TwoAbove
     two-means =
         let g = ground l view a first s s at count wells.shows in
-        let inner = and_list (suc (suc n)) (Not (equal n (suc n)) ∷ edge l.types sight (suc (suc n)) n next ∷ edge l.types sight (suc (suc n)) (suc n) next ∷ []) in
+        let inner = and_list (suc (suc n)) (Not (equal n (suc n)) ∷ edge l.types sight (suc (suc n)) n next ∷ edge l.types sight (suc (suc n)) (suc n)
+        next ∷ []) in
         let Above = λ (r : Position). (e : CellId) × IsAt at e r × IsParent l.types s e c in
         let each : (r w : Position) → WSat inner (with_position (with_position bound n r) (suc n) w) ↔ (((r ≡ w) → ⊥) × Above r × Above w) = λ r w.
         let d = with_position (with_position bound n r) (suc n) w in
@@ -195,14 +198,17 @@ module _ (l : LaidOut) (view : View) (a : Assignment) (first s : StoreMap) (at :
     fields-mean f g x y there found follows also =
         let ground_at = ground l view a first s s at count wells.shows in
         let named = by_data l view a first s s at count wells.shows in
-        let inner = and_list (suc n) (is_live l.types sight (suc n) n ∷ names_by_data l.types sight (suc n) f n next ∷ names_by_data l.types sight (suc n) g n next ∷ []) in
+        let inner = and_list (suc n) (is_live l.types sight (suc n) n ∷ names_by_data l.types sight (suc n) f n next ∷ names_by_data l.types sight (suc n)
+        g n next ∷ []) in
         let agreed = λ (r : Position). Agrees-bound count a bound n r bound-agrees (omega (arith, few)) in
         let at_r = λ (r : Position). IsOnly-bound bound n r in
         let at_p = λ (r : Position). IsOnly-still bound n next r p (omega arith) bound-only in
         let each = λ (r : Position). sat-three (suc n) (is_live l.types sight (suc n) n) (names_by_data l.types sight (suc n) f n next)
         (names_by_data l.types sight (suc n) g n next) (with_position bound n r) (LiveAt s at r)
-        (WSat (names_by_data l.types sight (suc n) f n next) (with_position bound n r)) (WSat (names_by_data l.types sight (suc n) g n next) (with_position bound n r))
-        (ground_at.live (with_position bound n r) (suc n) n r (agreed r) (omega (arith, few)) (omega arith) (at_r r)) ((λ h. h), (λ h. h)) ((λ h. h), (λ h. h)) in
+        (WSat (names_by_data l.types sight (suc n) f n next) (with_position bound n r))
+        (WSat (names_by_data l.types sight (suc n) g n next) (with_position bound n r))
+        (ground_at.live (with_position bound n r) (suc n) n r (agreed r) (omega (arith, few)) (omega arith) (at_r r)) ((λ h. h), (λ h. h))
+        ((λ h. h), (λ h. h)) in
         let one = λ (r : Position) (e : CellId) (at_e : IsAt at e r) (live : IsLive s e).
         named f x (with_position bound n r) (suc n) n next r p e c there follows (agreed r) (omega (arith, few)) (omega arith) (omega arith) (at_r r) (at_p r)
         at_e live here in
@@ -306,7 +312,8 @@ module _ (l : LaidOut) (view : View) (a : Assignment) (first s : StoreMap) (at :
       both_name n next u w,
       Contains-append_left by_values (by_both ∷ two_above l.types sight n next ∷ by_fields) (both_name n next u w)
           (inside-values (both_name n next) l.vars view.vars i j u w less one other),
-      (sat-and (is_in n next u) (is_in n next w) bound (Named (place.Var (var_of i))) (Named (place.Var (var_of j))) (var-named u i one) (var-named w j other)).1
+      (sat-and (is_in n next u) (is_in n next w) bound (Named (place.Var (var_of i))) (Named (place.Var (var_of j))) (var-named u i one)
+          (var-named w j other)).1
           (by_one, by_other),
     )
 
@@ -361,7 +368,8 @@ module _ (l : LaidOut) (view : View) (a : Assignment) (first s : StoreMap) (at :
           (fields-mean f g x y there found x_data y_data).1 (e, by_f.value, by_g.value),
         )
 
-    at-cells : (e d : CellId) (f g : FieldId) → IsLive s c → (place.Field e f ≡ place.Field d g → ⊥) → Named (place.Field e f) → Named (place.Field d g) → SomeTwice
+    at-cells : (e d : CellId) (f g : FieldId) → IsLive s c → (place.Field e f ≡ place.Field d g → ⊥) → Named (place.Field e f) → Named (place.Field d g) →
+        SomeTwice
     at-cells e d f g live apart by_f by_g = elim (cell_cases e d) as (λ _. SomeTwice) [
       | inr differ ↦ (
         two_above l.types sight n next,

@@ -1,5 +1,6 @@
 -- The formula of wrong pointer fields.
-use Rattle.std.proofs.Common.{◌≡◌, ◌≢◌, ◌↔◌, ◌⊎◌, inl, inr, ℕ, suc, ◌<◌, ◌≤◌, true, IsTrue, IsSomeAnd, List, [], ◌∷◌, flat_map, Option, Some, None, Contains, refl, sym, ap, ◌∙◌, subst, arith}
+use Rattle.std.proofs.Common.{◌≡◌, ◌≢◌, ◌↔◌, ◌⊎◌, inl, inr, ℕ, suc, ◌<◌, ◌≤◌, true, IsTrue, IsSomeAnd, List, [], ◌∷◌, flat_map, Option, Some, None, Contains}
+use Rattle.std.proofs.Common.{refl, sym, ap, ◌∙◌, subst, arith}
 use Rattle.std.specs.Prelude.{IsSome}
 use Rattle.std.specs.Option.{option_map_or}
 use Rattle.std.proofs.lemmas.Bool.{false≢true}
@@ -132,7 +133,8 @@ module _ (l : LaidOut) (view : View) (a : Assignment) (first s : StoreMap) (at :
         let g = ground l view a first s s at count wells.shows in
         let known = (subst (λ k. KnowsKind l.types k) kind (kind-known l.types f entry wells.table there)).1 in
         let three = sat-three (suc (suc next)) (has l.types sight (suc (suc next)) f next) (data_walk l.types sight along (suc (suc next)) next (suc next))
-        (lives_in l.types sight (suc (suc next)) target (suc next)) (at_two p q) (FieldAt s at f p) (WalkAt l.types s at DataAlone along p q) (TypeAt s at target q)
+        (lives_in l.types sight (suc (suc next)) target (suc next)) (at_two p q) (FieldAt s at f p) (WalkAt l.types s at DataAlone along p q)
+        (TypeAt s at target q)
         (g.had f entry there (at_two p q) (suc (suc next)) next p (agreed_two p q) (omega (arith, few)) (omega arith) (at_p p q))
         (data_walk-means l view a first s s at count wells.shows along known (at_two p q) (suc (suc next)) next (suc next) p q (agreed_two p q)
         (omega (arith, few)) (omega arith) (omega arith) (at_p p q) (at_q p q))

@@ -1,5 +1,6 @@
 -- The formulas of live cells where all of a store is read, or a region of it.
-use Rattle.std.proofs.Common.{◌≡◌, ◌↔◌, ℕ, zero, suc, ◌<◌, ◌≤◌, Bool, true, false, cond, IsTrue, IsSomeAnd, List, [], ◌∷◌, map, length, slice_get, Option, Some, None, Contains, refl, sym, ap, ◌∙◌, subst, arith}
+use Rattle.std.proofs.Common.{◌≡◌, ◌↔◌, ℕ, zero, suc, ◌<◌, ◌≤◌, Bool, true, false, cond, IsTrue, IsSomeAnd, List, [], ◌∷◌, map, length, slice_get, Option, Some}
+use Rattle.std.proofs.Common.{None, Contains, refl, sym, ap, ◌∙◌, subst, arith}
 use Rattle.std.proofs.lemmas.Bool.{false≢true, eq-eqb}
 use Rattle.std.specs.Prelude.{IsSome}
 use Rattle.std.specs.Option.{option_map_or, option_and_then}
@@ -273,7 +274,8 @@ module _ (types : List TypeEntry) (s t : StoreMap) (at : Standing) (fitting : Ar
             let of_ty : IsOfType t cell.variant.ty c = of-some (λ e. e.variant.ty ≡ cell.variant.ty) (cell_of t c) cell found refl in
             some.1 (
               cell.variant.ty,
-              Contains-named type_id (length types) cell.variant.ty.0 (type-known types cell.variant.ty cell.variant.index ((fitting.fit c cell found).variant)),
+              Contains-named type_id (length types) cell.variant.ty.0
+                  (type-known types cell.variant.ty cell.variant.index ((fitting.fit c cell found).variant)),
               (c, here, of_ty),
             )),
       )

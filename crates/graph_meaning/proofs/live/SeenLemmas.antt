@@ -60,7 +60,8 @@ events-below n (e ∷ events) all =
 
 -- ---- values that fit their fields
 
-pub value-fits : (types : List TypeEntry) (vars : List VarEntry) (s : StoreMap) (c : CellId) (f : FieldId) (x : Value) (entry : FieldEntry) → Fits types vars s →
+pub value-fits : (types : List TypeEntry) (vars : List VarEntry) (s : StoreMap) (c : CellId) (f : FieldId) (x : Value) (entry : FieldEntry) → Fits types
+    vars s →
     field_value s c f ≡ Some x → field_at types f ≡ Some entry → FieldFits s entry.kind x
 value-fits types vars s c f x entry fits value_is there =
     let slot = slot_at_value types vars s fits c f x value_is in
@@ -114,7 +115,8 @@ module _ (l : LaidOut) (view : View) (a : Assignment) (first s t : StoreMap) (at
   pub seen-is_live : MeansHere count a (λ next y. is_live l.types sight next y) (LiveAt t at)
   seen-is_live = is_live-means l.types s t at fitting count a sight lives-means
 
-  pub seen-has : (f : FieldId) (entry : FieldEntry) → field_at l.types f ≡ Some entry → MeansHere count a (λ next y. has l.types sight next f y) (FieldAt t at f)
+  pub seen-has : (f : FieldId) (entry : FieldEntry) → field_at l.types f ≡ Some entry → MeansHere count a (λ next y. has l.types sight next f y)
+      (FieldAt t at f)
   seen-has f entry there = has-means l.types s t at fitting count a sight lives-means f entry shows.owners there
 
   pub seen-is_dead : (b : Assignment) (next : ℕ) (u : Sym) (o : Option CellId) → Agrees count a b → count ≤ next → IsSymBelow count u → StandsForCell a at u o →
@@ -181,7 +183,8 @@ module _ (l : LaidOut) (view : View) (a : Assignment) (first s t : StoreMap) (at
       )
     where
       no-cell : (d e : CellId) → field_value first d f ≡ Some (value.Cell (Some e)) → ⊥
-      no-cell d e named = (let fits = value-fits l.types l.vars first d f (value.Cell (Some e)) entry shows.fits named there in subst (λ k. FieldFits first k (value.Cell (Some e))) kind fits)
+      no-cell d e named = (let fits = value-fits l.types l.vars first d f (value.Cell (Some e)) entry shows.fits named there in subst
+          (λ k. FieldFits first k (value.Cell (Some e))) kind fits)
 
   -- a cell field of a live cell names the cell, live or dead, that stands there, where it does so before all events
   pub seen-names : (f : FieldId) (entry : FieldEntry) (b : Assignment) (next y z : ℕ) (p q : Position) (c : CellId) → field_class entry.kind ≡ Reference →
@@ -210,7 +213,8 @@ module _ (l : LaidOut) (view : View) (a : Assignment) (first s t : StoreMap) (at
       by-value (field.Pointer target route) reference r places u (value.Cell o) sits stands fits under =
           names-means count a b next z q places r u o sits agrees also stands under
 
-  pub old-named : (f : FieldId) (entry : FieldEntry) (target : TypeId) → field_at l.types f ≡ Some entry → entry.kind ≡ field.Data target → NamesPlaced f first shows.seen.start
+  pub old-named : (f : FieldId) (entry : FieldEntry) (target : TypeId) → field_at l.types f ≡ Some entry → entry.kind ≡ field.Data target → NamesPlaced f
+      first shows.seen.start
   old-named f entry target there kind d e named =
       let of_e = subst (λ k. FieldHoldsLive first k (value.Cell (Some e))) kind
       (IfSome-at (field_value first d f) (FieldHoldsLive first entry.kind) (value.Cell (Some e)) named

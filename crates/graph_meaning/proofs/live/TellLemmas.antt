@@ -1,5 +1,6 @@
 -- The formula of a field after all events, for whatever is said of its value.
-use Rattle.std.proofs.Common.{◌≡◌, ◌≢◌, ◌↔◌, ◌⊎◌, inl, inr, ℕ, ◌+◌, ◌<◌, ◌≤◌, Bool, true, false, cond, ◌==◌, List, [], ◌∷◌, Option, Some, None, refl, sym, ap, ◌∙◌, subst, arith}
+use Rattle.std.proofs.Common.{◌≡◌, ◌≢◌, ◌↔◌, ◌⊎◌, inl, inr, ℕ, ◌+◌, ◌<◌, ◌≤◌, Bool, true, false, cond, ◌==◌, List, [], ◌∷◌, Option, Some, None, refl, sym, ap}
+use Rattle.std.proofs.Common.{◌∙◌, subst, arith}
 use Rattle.std.proofs.lemmas.Bool.{false≢true, eqb-true, eq-eqb, and_parts, and_from}
 use Rattle.std.specs.Option.{option_and_then}
 use Rattle.gta_theory.specs.Assignments.{Position, Assignment, IsOnly}
@@ -324,7 +325,8 @@ module _ (types : List TypeEntry) (slots count : ℕ) (a b : Assignment) (next y
 
   along : (g : Formula) (z : Stood) (s : StoreMap) (at : Standing) → z.store ≡ s → z.at ≡ at → Told g (record { store = s; at = at }) → Told g z
   along g z s at store places told =
-      told-along types f entry there p Says said (WSat g b) (record { store = s; at = at }) z (stood-is types f entry there p Says said z s at store places) told
+      told-along types f entry there p Says said (WSat g b) (record { store = s; at = at }) z
+      (stood-is types f entry there p Says said z s at store places) told
 
   kept : (g : Formula) (x z : Stood) → z ≡ x → Told g x → Told g z
   kept g x z same told = told-along types f entry there p Says said (WSat g b) x z (sym same) told

@@ -1,5 +1,6 @@
 -- What the formulas of walks stand on, and the forms of route without parts.
-use Rattle.std.proofs.Common.{◌≡◌, ◌↔◌, ℕ, suc, ◌<◌, ◌≤◌, Bool, true, false, IsTrue, IsSomeAnd, List, [], ◌∷◌, map, Option, Some, None, Contains, refl, sym, ap, ◌∙◌, subst, arith}
+use Rattle.std.proofs.Common.{◌≡◌, ◌↔◌, ℕ, suc, ◌<◌, ◌≤◌, Bool, true, false, IsTrue, IsSomeAnd, List, [], ◌∷◌, map, Option, Some, None, Contains, refl, sym, ap}
+use Rattle.std.proofs.Common.{◌∙◌, subst, arith}
 use Rattle.std.specs.Prelude.{IsSome}
 use Rattle.std.specs.Str.{bytes_eq}
 use Rattle.std.proofs.lemmas.Bool.{false≢true, and_parts, and_from}
@@ -22,7 +23,8 @@ use Rattle.store_core.specs.declared.value.Value.TheVariants as value
 use Rattle.store_core.specs.Tables.{TypeEntry, FieldEntry, KnowsVariant, field_at}
 use Rattle.store_core.specs.Stores.{StoreMap, IsLive, FieldFits, field_value}
 use Rattle.store_core.proofs.FittingLemmas.{IsSomeAnd-at}
-use Rattle.routing_expr.specs.Walks.{Fields, DataAlone, DataAndPointers, IsFollowed, Leads, LeadsByName, IsParent, IsOfType, IsOfVariant, HasTruth, IsRoot, IsLeaf, Stays}
+use Rattle.routing_expr.specs.Walks.{Fields, DataAlone, DataAndPointers, IsFollowed, Leads, LeadsByName, IsParent, IsOfType, IsOfVariant, HasTruth, IsRoot}
+use Rattle.routing_expr.specs.Walks.{IsLeaf, Stays}
 use Rattle.routing_expr.proofs.LiveLemmas.{IsLive-field_value, Leads-live, IsParent-live}
 use Rattle.tree_store.proofs.SpotsLemmas.{of-some}
 use Rattle.graph_view.specs.Sights.{Sight}
@@ -217,7 +219,8 @@ module _ (types : List TypeEntry) (sight : Sight) (count : ℕ) (a : Assignment)
         listed-field types (has_kind is_data) f h in
         let joined = joined-means DataAlone (names_by_data types sight) means fs (λ f h.
         let (entry, there, so) = listed f h in
-        of-some (λ e. IsFollowed DataAlone e.kind) (field_at types f) entry there (data-test.from entry.kind so)) b next y z p q agrees few before behind only also in (
+        of-some (λ e. IsFollowed DataAlone e.kind) (field_at types f) entry there (data-test.from entry.kind so)) b next y z p q agrees few before behind
+        only also in (
           (λ h. joins-alike (LedBy DataAlone fs) (IsParent types t) (λ c d led. record { field = led.0; leads = led.2 }) p q (joined.0 h)),
           (λ h. joined.1 (joins-alike (IsParent types t) (LedBy DataAlone fs) (λ c d parent.
               let (entry, there, follows) = IsSomeAnd-at (field_at types parent.field) (λ e. IsFollowed DataAlone e.kind) parent.leads.kind in
@@ -347,14 +350,16 @@ module _ (types : List TypeEntry) (sight : Sight) (count : ℕ) (a : Assignment)
       not-true (value.Cell c) fits not = absurd fits
       not-true (value.Cells cells) fits not = absurd fits
 
-  pub truth-means : (name : List ℕ) (truth : Bool) → MeansPairs count a (stays_at_truth types sight name truth) (JoinsAt at (Stays (HasTruth types t name truth)))
+  pub truth-means : (name : List ℕ) (truth : Bool) → MeansPairs count a (stays_at_truth types sight name truth)
+      (JoinsAt at (Stays (HasTruth types t name truth)))
   truth-means name truth b next y z p q agrees few before behind only also =
       let fs = fields_named types name is_bool in
       let some = or_list next (map (has_truth types sight truth next y) fs) in
       let one-of = sat-or_list next (has_truth types sight truth next y) fs b
       (λ f. (c : CellId) × IsAt at c p × (field_value t c f ≡ Some (value.Bool truth))) agrees.finite (λ f listed.
       let (entry, there, so) = listed-field types (is_named name is_bool) f listed in
-      has_truth-means f entry truth there (bool-kind entry.kind (and_parts (bytes_eq name entry.name) (is_bool entry.kind) so).1) b next y p agrees few before only) in
+      has_truth-means f entry truth there (bool-kind entry.kind (and_parts (bytes_eq name entry.name) (is_bool entry.kind) so).1) b next y p agrees few
+      before only) in
       let both = sat-and (equal y z) some b (p ≡ q) (WSat some b) (equal-means b y z p q only also) ((λ h. h), (λ h. h)) in
       let stays = stays-means (HasTruth types t name truth) p q in (
         (λ h.

@@ -41,7 +41,8 @@ use Rattle.graph_meaning.proofs.live.AgreeingLemmas.{sat-three}
 use Rattle.graph_meaning.proofs.live.ReadLemmas.{is-some, is-none, read-cell}
 use Rattle.graph_meaning.proofs.live.TellLemmas.{IsTold, NamesPlaced, told-value}
 use Rattle.graph_meaning.proofs.live.FieldsLemmas.{IsTruth, first-truth, first-child}
-use Rattle.graph_meaning.proofs.live.SeenLemmas.{value-fits, begin-sits, seen-sits, lives-means, seen-lives_in, seen-is_live, seen-has, first-lives, first-lives_in, first-has, seen-is_true, seen-names, seen-data_names, old-named, seen-placed}
+use Rattle.graph_meaning.proofs.live.SeenLemmas.{value-fits, begin-sits, seen-sits, lives-means, seen-lives_in, seen-is_live, seen-has, first-lives}
+use Rattle.graph_meaning.proofs.live.SeenLemmas.{first-lives_in, first-has, seen-is_true, seen-names, seen-data_names, old-named, seen-placed}
 use Rattle.graph_meaning.proofs.live.ReadLemmas.{is_live-means}
 use Rattle.graph_meaning.proofs.live.SeenLemmas.{first-fitting}
 use Rattle.graph_meaning.specs.Walks.Walking.{WalkAt}
@@ -135,9 +136,11 @@ module _ (l : LaidOut) (view : View) (a : Assignment) (first s t : StoreMap) (at
       entry.kind ≡ field.Bool → Agrees count a b → IsOnly (b y) p → IsAt shows.seen.start c p → IsLive first c →
       WSat (Sub (track y) (track_or_first (bool_track l.types f))) b ↔ (field_value first c f ≡ Some (value.Bool true))
   first-bool f entry b y p c there kind agrees only here live =
-      let told = first-truth l.types l.vars first a shows.seen.start shows.fits shows.backbone shows.assignment shows.seen.stand count shows.free.layout b agrees
+      let told = first-truth l.types l.vars first a shows.seen.start shows.fits shows.backbone shows.assignment shows.seen.stand count shows.free.layout b
+      agrees
       y p only f entry there kind in
-      let means = told-value f p IsTruth (WSat (Sub (track y) (track_or_first (bool_track l.types f))) b) (record { store = first; at = shows.seen.start }) c told here
+      let means = told-value f p IsTruth (WSat (Sub (track y) (track_or_first (bool_track l.types f))) b)
+      (record { store = first; at = shows.seen.start }) c told here
       live in (
         (λ h. let (w, is, says) = means.0 h in is ∙ ap (λ v. Some v) says),
         (λ e. means.1 (value.Bool true, e, refl)),
@@ -169,7 +172,8 @@ module _ (l : LaidOut) (view : View) (a : Assignment) (first s t : StoreMap) (at
           let form : names_by_data l.types (at_first (var_slots l.vars)) next f y z ≡ first_child l.types (at_first (var_slots l.vars)) next f target y z =
           ap (λ o. option_map_or (λ (e : FieldEntry). data_names_in l.types (at_first (var_slots l.vars)) next f y z e.kind) o (false_at next)) there
           ∙ ap (λ k. data_names_in l.types (at_first (var_slots l.vars)) next f y z k) is in
-          let told = first-child l.types l.vars first a shows.seen.start shows.fits shows.backbone shows.seen.stand count b agrees next y z p q few before behind
+          let told = first-child l.types l.vars first a shows.seen.start shows.fits shows.backbone shows.seen.stand count b agrees next y z p q few before
+          behind
           only also (at_first (var_slots l.vars)) f entry target there is (first-has l view a first s t at count shows f entry there)
           (first-lives_in l view a first s t at count shows target) in
           let means = told-value f p (λ places w. NamesAt places w q) (WSat (first_child l.types (at_first (var_slots l.vars)) next f target y z) b)
@@ -265,7 +269,8 @@ module _ (l : LaidOut) (view : View) (a : Assignment) (first s t : StoreMap) (at
         IsLive t c → WSat (names l.types (sight_of l.vars view) next f y z) b ↔ FieldNamesAt t at c f q
     names-told f entry b next y z p q c there follows agrees few before behind only also here live = by entry.kind refl follows
       where
-        form : (kind : FieldKind) → entry.kind ≡ kind → names l.types (sight_of l.vars view) next f y z ≡ names_in l.types (sight_of l.vars view) next f y z kind
+        form : (kind : FieldKind) → entry.kind ≡ kind → names l.types (sight_of l.vars view) next f y z ≡ names_in l.types (sight_of l.vars view) next f y
+            z kind
         form kind is =
             ap (λ o. option_map_or (λ (e : FieldEntry). names_in l.types (sight_of l.vars view) next f y z e.kind) o (false_at next)) there
             ∙ ap (λ k. names_in l.types (sight_of l.vars view) next f y z k) is
@@ -293,7 +298,8 @@ module _ (l : LaidOut) (view : View) (a : Assignment) (first s t : StoreMap) (at
     pub all_walk-means : (along : Route) → KnowsRoute l.types along →
         MeansPairs count a (walk l.types (sight_of l.vars view) along) (WalkAt l.types t at DataAndPointers along)
     all_walk-means along known =
-        walk-means l.types (sight_of l.vars view) count a s t at ground DataAndPointers is_reference (names l.types (sight_of l.vars view)) reference-test by_reference
+        walk-means l.types (sight_of l.vars view) count a s t at ground DataAndPointers is_reference (names l.types (sight_of l.vars view)) reference-test
+        by_reference
         by_data along known
 
     -- the cells that fields of live cells name stand somewhere

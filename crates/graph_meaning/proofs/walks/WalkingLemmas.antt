@@ -19,7 +19,8 @@ use Rattle.routing_expr.specs.Walks.{Fields, DataAlone, LeadsByName, IsParent, I
 use Rattle.routing_expr.specs.Regions.{has_number}
 use Rattle.routing_expr.proofs.LiveLemmas.{Walk-live, Chain-live}
 use Rattle.routing_expr.proofs.RouteLemmas.{IsHereditary, route-induction}
-use Rattle.routing_expr.proofs.WalkLemmas.{Walk-Down, Walk-Up, Walk-UpAny, Walk-Root, Walk-Leaf, Walk-IsType, Walk-IsVariant, Walk-IsBool, Walk-Then, Walk-Or, Walk-Star}
+use Rattle.routing_expr.proofs.WalkLemmas.{Walk-Down, Walk-Up, Walk-UpAny, Walk-Root, Walk-Leaf, Walk-IsType, Walk-IsVariant, Walk-IsBool, Walk-Then, Walk-Or}
+use Rattle.routing_expr.proofs.WalkLemmas.{Walk-Star}
 use Rattle.routing_laws.proofs.DecidedWalks.{walk_ends}
 use Rattle.routing_laws.proofs.RegionLemmas.{number_in, in_number}
 use Rattle.graph_view.specs.Sights.{Sight}
@@ -33,7 +34,8 @@ use Rattle.graph_meaning.specs.Walks.Walking.{JoinsAt, WalkAt}
 use Rattle.graph_meaning.proofs.walks.ListedLemmas.{places_of, on-place, place-on, places-finite}
 use Rattle.graph_meaning.proofs.walks.ClosingLemmas.{IsLinked, closing, closing-means}
 use Rattle.graph_meaning.proofs.walks.ChainLemmas.{chain-linked, chain-end}
-use Rattle.graph_meaning.proofs.walks.GroundLemmas.{MeansNames, IsGround, IsTestOf, down-means, edge-means, root-means, leaf-means, type-means, variant-means, truth-means}
+use Rattle.graph_meaning.proofs.walks.GroundLemmas.{MeansNames, IsGround, IsTestOf, down-means, edge-means, root-means, leaf-means, type-means, variant-means}
+use Rattle.graph_meaning.proofs.walks.GroundLemmas.{truth-means}
 
 flip : {P Q : Type 0} → P ↔ Q → Q ↔ P
 flip h = (h.1, h.0)
@@ -70,7 +72,8 @@ module _ (types : List TypeEntry) (sight : Sight) (count : ℕ) (a : Assignment)
       let some = sat-ex1 next (And (one (suc next) y next) (other (suc next) next z)) b
       (λ u. WalkAt types t at fields first p u × WalkAt types t at fields second u q) (λ u.
       let agreed = Agrees-bound count a b next u agrees few in
-      sat-and (one (suc next) y next) (other (suc next) next z) (with_position b next u) (WalkAt types t at fields first p u) (WalkAt types t at fields second u q)
+      sat-and (one (suc next) y next) (other (suc next) next z) (with_position b next u) (WalkAt types t at fields first p u)
+      (WalkAt types t at fields second u q)
       (meant (with_position b next u) (suc next) y next p u agreed (omega (arith, few)) (omega (arith, before)) (omega arith)
       (IsOnly-still b next y u p before only) (IsOnly-bound b next u))
       (also_meant (with_position b next u) (suc next) next z u q agreed (omega (arith, few)) (omega arith) (omega (arith, behind))
@@ -104,7 +107,8 @@ module _ (types : List TypeEntry) (sight : Sight) (count : ℕ) (a : Assignment)
         ]),
         (λ (h : WalkAt types t at fields (Or first second) p q).
             let (c, d, here, there, walk) = h in
-            either.1 (elim ((Walk-Or types t fields first second c d).0 walk) as (λ _. WalkAt types t at fields first p q ⊎ WalkAt types t at fields second p q) [
+            either.1 (elim ((Walk-Or types t fields first second c d).0 walk) as
+            (λ _. WalkAt types t at fields first p q ⊎ WalkAt types t at fields second p q) [
               | inl l ↦ inl (c, d, here, there, l)
               | inr r ↦ inr (c, d, here, there, r)
             ])),
@@ -130,7 +134,8 @@ module _ (types : List TypeEntry) (sight : Sight) (count : ℕ) (a : Assignment)
         let (d, at_u, so) = on-place (λ d. has_number cells d.0) at u on in
         let (e, f, also_u, at_w, step) = leads in
         let first : Round d f = subst (λ g. Round g f) (ground.apart e d u also_u at_u) step in
-        place-on (λ d. has_number cells d.0) at f w at_w (chain-in f (chain-end t at ground.there ground.one Round (Walk-live types t fields round) c d f (in-chain d so) first))) in
+        place-on (λ d. has_number cells d.0) at f w at_w
+        (chain-in f (chain-end t at ground.there ground.one Round (Walk-live types t fields round) c d f (in-chain d so) first))) in
         let (d, there, so) = on-place (λ d. has_number cells d.0) at q inside in
         (c, d, here, there, in-chain d so)
 
@@ -148,7 +153,12 @@ module _ (types : List TypeEntry) (sight : Sight) (count : ℕ) (a : Assignment)
               let (c, d, here, there, walk) = h in
               let chain = (Walk-Star types t fields round c d).0 walk in
               let ends = Chain-live (Walk-live types t fields round) chain in
-              whole.1 ((c, here, ends.0), (d, there, ends.1), chain-linked t at ground.there ground.one Round (Walk-live types t fields round) c d chain p q here there)),
+              whole.1 (
+                (c, here, ends.0),
+                (d, there, ends.1),
+                chain-linked t at ground.there ground.one Round (Walk-live types t fields round) c d chain p
+                    q here there,
+              )),
         )
 
   -- ---- all routes

@@ -99,7 +99,8 @@ module _ (l : LaidOut) (view : View) (a : Assignment) (first s : StoreMap) (at :
         let means = on-cells (Some (x, true)) (store_on s cells) (cells, given-region roots x cells has listed, refl) has.below in
         let on = Sat-on l.types l.vars [] s outside it (region.Part roots) cells listed in
         let same : region_on part (region.Part roots) ≡ Some (x, true) = ap (λ o. option_map_or (λ (p : Track). Some (p, true)) o None) is in
-        subst (λ r. WSat (assertion l.types (sight_of l.vars (within r)) view.vars it next) b ↔ Sat l.types l.vars [] s (region.Part roots) outside it) (sym same) (
+        subst (λ r. WSat (assertion l.types (sight_of l.vars (within r)) view.vars it next) b ↔ Sat l.types l.vars [] s (region.Part roots) outside it)
+        (sym same) (
           (λ h. on.1 (means.0 h)),
           (λ h. means.1 (on.0 h)),
         )
@@ -110,7 +111,8 @@ module _ (l : LaidOut) (view : View) (a : Assignment) (first s : StoreMap) (at :
         let means = on-cells (Some (x, false)) (store_on s rest) (cells, rest, given-region roots x cells has listed, lists, refl) has.below in
         let on = Sat-on l.types l.vars [] s outside it (region.Rest roots) rest (rest-unreached roots cells rest listed lists) in
         let same : region_on part (region.Rest roots) ≡ Some (x, false) = ap (λ o. option_map_or (λ (p : Track). Some (p, false)) o None) is in
-        subst (λ r. WSat (assertion l.types (sight_of l.vars (within r)) view.vars it next) b ↔ Sat l.types l.vars [] s (region.Rest roots) outside it) (sym same) (
+        subst (λ r. WSat (assertion l.types (sight_of l.vars (within r)) view.vars it next) b ↔ Sat l.types l.vars [] s (region.Rest roots) outside it)
+        (sym same) (
           (λ h. on.1 (means.0 h)),
           (λ h. means.1 (on.0 h)),
         )

@@ -1,5 +1,6 @@
 -- The formula of pointer variables on the wrong side of a part.
-use Rattle.std.proofs.Common.{◌≡◌, ◌↔◌, ◌⊎◌, inl, inr, ℕ, suc, ◌≤◌, Bool, true, false, cond, IsTrue, List, [], ◌∷◌, flat_map, length, Option, Some, Contains, refl, sym, ap, ◌∙◌, subst, arith, nat_eq}
+use Rattle.std.proofs.Common.{◌≡◌, ◌↔◌, ◌⊎◌, inl, inr, ℕ, suc, ◌≤◌, Bool, true, false, cond, IsTrue, List, [], ◌∷◌, flat_map, length, Option, Some, Contains}
+use Rattle.std.proofs.Common.{refl, sym, ap, ◌∙◌, subst, arith, nat_eq}
 use Rattle.std.specs.List.{list_any}
 use Rattle.std.proofs.lemmas.Bool.{false≢true, or_left, or_right, or_cases}
 use Rattle.std.proofs.lemmas.Bool.Decides.{nat_tests}
@@ -174,7 +175,8 @@ module _ (l : LaidOut) (view : View) (a : Assignment) (first s : StoreMap) (at :
         (λ h.
             let (f, among, holds) = some.0 h in
             let (v, listed, from_v) = flat_map-inside parts (vars_in l.vars) f among in
-            let (entry, there, inner) = listed-inside (λ (z : VarEntry). cond (is_pointer z.kind) (is_astray inside view.vars x next v ∷ []) []) (var_at l.vars v) f from_v in
+            let (entry, there, inner) = listed-inside (λ (z : VarEntry). cond (is_pointer z.kind) (is_astray inside view.vars x next v ∷ []) [])
+            (var_at l.vars v) f from_v in
             let (so, same) = cond-inside (is_pointer entry.kind) (is_astray inside view.vars x next v) f inner in
             let pointer = pointer-kind entry.kind so in
             let (c, value_is, wrong) = (astray-means v entry there pointer).0 (subst (λ g. WSat g b) (sym same) holds) in
@@ -189,7 +191,8 @@ module _ (l : LaidOut) (view : View) (a : Assignment) (first s : StoreMap) (at :
             let (entry, there, pointer) = IsSomeAnd-at (var_at l.vars v) (λ z. IsPointerVar z.kind) h.points.pointer in
             let holds = (astray-means v entry there pointer).1 (h.cell, h.points.names, h.wrong_side) in
             let single : Contains (cond (is_pointer entry.kind) (is_astray inside view.vars x next v ∷ []) []) (is_astray inside view.vars x next v) =
-            subst (λ k. Contains (cond k (is_astray inside view.vars x next v ∷ []) []) (is_astray inside view.vars x next v)) (sym (kind-pointer entry.kind pointer))
+            subst (λ k. Contains (cond k (is_astray inside view.vars x next v ∷ []) []) (is_astray inside view.vars x next v))
+            (sym (kind-pointer entry.kind pointer))
             (Contains-first (is_astray inside view.vars x next v) []) in
             some.1 (
               is_astray inside view.vars x next v,

@@ -12,7 +12,8 @@ use Rattle.store_logic.specs.declared.arg.Arg.{Arg}
 use Rattle.store_logic.specs.declared.assertion.Assertion.{Assertion, roll-Assertion}
 use Rattle.store_logic.specs.declared.assertion.Assertion.TheVariants as assertion
 use Rattle.store_logic.specs.declared.assertion.Assertion.TheVariants.{rolls-Truth, rolls-Is, rolls-Same, rolls-Member, rolls-Subset, rolls-Walk, rolls-Pred}
-use Rattle.store_logic.specs.declared.assertion.Assertion.TheVariants.{rolls-Not, rolls-And, rolls-Or, rolls-Imp, rolls-Iff, rolls-Ex, rolls-All, rolls-ExSet, rolls-AllSet}
+use Rattle.store_logic.specs.declared.assertion.Assertion.TheVariants.{rolls-Not, rolls-And, rolls-Or, rolls-Imp, rolls-Iff, rolls-Ex, rolls-All, rolls-ExSet}
+use Rattle.store_logic.specs.declared.assertion.Assertion.TheVariants.{rolls-AllSet}
 use Rattle.store_logic.specs.declared.assertion.Assertion.TheOpen.{Assertion-F}
 use Rattle.store_logic.specs.declared.assertion.Assertion.TheFolds.{rec-roll-Assertion, map-Assertion}
 use Rattle.store_logic.specs.Sorts.{Truth, Cell, Set, Scope, TermFits, ArgsFit, under}

@@ -13,8 +13,11 @@ use Rattle.store_logic.specs.Sorts.{Sort, Cell, Set}
 use Rattle.store_logic.specs.Fits.{FitsIn}
 use Rattle.store_logic.specs.Terms.{Environment, under}
 use Rattle.store_logic.specs.Satisfaction.{Holds}
-use Rattle.store_logic.proofs.AssertionLemmas.{IsHereditary, assertion-induction, fold-True, fold-False, fold-Truth, fold-Is, fold-Same, fold-Member, fold-Subset, fold-Walk, fold-Not, fold-And, fold-Or, fold-Imp, fold-Iff, fold-Ex, fold-All, fold-ExSet, fold-AllSet}
-use Rattle.store_logic.proofs.HoldsLemmas.{Holds-True, Holds-False, Holds-Truth, Holds-Is, Holds-Same, Holds-Member, Holds-Subset, Holds-Walk, Holds-Not, Holds-And, Holds-Or, Holds-Imp, Holds-Iff, Holds-Ex, Holds-All, Holds-ExSet, Holds-AllSet}
+use Rattle.store_logic.proofs.AssertionLemmas.{IsHereditary, assertion-induction, fold-True, fold-False, fold-Truth, fold-Is, fold-Same, fold-Member}
+use Rattle.store_logic.proofs.AssertionLemmas.{fold-Subset, fold-Walk, fold-Not, fold-And, fold-Or, fold-Imp, fold-Iff, fold-Ex, fold-All, fold-ExSet}
+use Rattle.store_logic.proofs.AssertionLemmas.{fold-AllSet}
+use Rattle.store_logic.proofs.HoldsLemmas.{Holds-True, Holds-False, Holds-Truth, Holds-Is, Holds-Same, Holds-Member, Holds-Subset, Holds-Walk, Holds-Not}
+use Rattle.store_logic.proofs.HoldsLemmas.{Holds-And, Holds-Or, Holds-Imp, Holds-Iff, Holds-Ex, Holds-All, Holds-ExSet, Holds-AllSet}
 use Rattle.tree_encode.specs.Layouts.{LaidOut}
 use Rattle.graph_view.specs.declared.view.View.{View}
 use Rattle.graph_view.specs.Sights.{sight_of}
@@ -30,7 +33,8 @@ use Rattle.triple_meaning.proofs.claims.HereLemmas.{sat-imp, sat-iff}
 use Rattle.triple_meaning.proofs.claims.TermLemmas.{term-truth-means}
 use Rattle.triple_meaning.proofs.claims.AtomLemmas.{variant-means, same-means, member-means, subset-means, walk-means}
 use Rattle.triple_meaning.proofs.claims.QuantifierLemmas.{IsInner, some-cell-means, each-cell-means, some-set-means, each-set-means}
-use Rattle.triple_meaning.proofs.claims.FittingForms.{Truth-parts, Is-parts, Same-parts, Member-parts, Subset-parts, Walk-parts, Pred-parts, Not-parts, And-parts, Or-parts, Imp-parts, Iff-parts, Ex-parts, All-parts, ExSet-parts, AllSet-parts}
+use Rattle.triple_meaning.proofs.claims.FittingForms.{Truth-parts, Is-parts, Same-parts, Member-parts, Subset-parts, Walk-parts, Pred-parts, Not-parts}
+use Rattle.triple_meaning.proofs.claims.FittingForms.{And-parts, Or-parts, Imp-parts, Iff-parts, Ex-parts, All-parts, ExSet-parts, AllSet-parts}
 use Rattle.triple_meaning.proofs.claims.RouteForms.{fitting-known}
 
 module _ (l : LaidOut) (view : View) (a : Assignment) (first s t : StoreMap) (at : Standing) (count : ℕ) (wells : ShowsWell l view a first s t at count)
@@ -107,22 +111,26 @@ module _ (l : LaidOut) (view : View) (a : Assignment) (first s t : StoreMap) (at
         (sat-not (formula it own) b (Holding it e) (one own b sorts e agrees few bound (Not-parts l.types (scope_under l.vars sorts) it fits)));
     of_And = λ it other one two own b sorts e agrees few bound fits.
         let parts = And-parts l.types (scope_under l.vars sorts) it other fits in
-        by-form (form.And it other) (rule (Assertion-F.And (formula it) (formula other))) own b e _ (fold-And Text rule it other) (Holds-And l.types t says it other e)
+        by-form (form.And it other) (rule (Assertion-F.And (formula it) (formula other))) own b e _ (fold-And Text rule it other)
+        (Holds-And l.types t says it other e)
         (sat-and (formula it own) (formula other own) b (Holding it e) (Holding other e) (one own b sorts e agrees few bound parts.0)
         (two own b sorts e agrees few bound parts.1));
     of_Or = λ it other one two own b sorts e agrees few bound fits.
         let parts = Or-parts l.types (scope_under l.vars sorts) it other fits in
-        by-form (form.Or it other) (rule (Assertion-F.Or (formula it) (formula other))) own b e _ (fold-Or Text rule it other) (Holds-Or l.types t says it other e)
+        by-form (form.Or it other) (rule (Assertion-F.Or (formula it) (formula other))) own b e _ (fold-Or Text rule it other)
+        (Holds-Or l.types t says it other e)
         (sat-or (formula it own) (formula other own) b (Holding it e) (Holding other e) agrees.finite (one own b sorts e agrees few bound parts.0)
         (two own b sorts e agrees few bound parts.1));
     of_Imp = λ it other one two own b sorts e agrees few bound fits.
         let parts = Imp-parts l.types (scope_under l.vars sorts) it other fits in
-        by-form (form.Imp it other) (rule (Assertion-F.Imp (formula it) (formula other))) own b e _ (fold-Imp Text rule it other) (Holds-Imp l.types t says it other e)
+        by-form (form.Imp it other) (rule (Assertion-F.Imp (formula it) (formula other))) own b e _ (fold-Imp Text rule it other)
+        (Holds-Imp l.types t says it other e)
         (sat-imp (formula it own) (formula other own) b (Holding it e) (Holding other e) agrees.finite (one own b sorts e agrees few bound parts.0)
         (two own b sorts e agrees few bound parts.1));
     of_Iff = λ it other one two own b sorts e agrees few bound fits.
         let parts = Iff-parts l.types (scope_under l.vars sorts) it other fits in
-        by-form (form.Iff it other) (rule (Assertion-F.Iff (formula it) (formula other))) own b e _ (fold-Iff Text rule it other) (Holds-Iff l.types t says it other e)
+        by-form (form.Iff it other) (rule (Assertion-F.Iff (formula it) (formula other))) own b e _ (fold-Iff Text rule it other)
+        (Holds-Iff l.types t says it other e)
         (sat-iff (formula it own) (formula other own) b (Holding it e) (Holding other e) agrees.finite (one own b sorts e agrees few bound parts.0)
         (two own b sorts e agrees few bound parts.1));
     of_Ex = λ ty it one own b sorts e agrees few bound fits.

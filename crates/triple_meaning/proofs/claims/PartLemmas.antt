@@ -1,5 +1,6 @@
 -- The formula of a part: the least set that has the roots and that no data field leaves.
-use Rattle.std.proofs.Common.{◌≡◌, ◌↔◌, ◌⊎◌, inl, inr, ℕ, suc, ◌<◌, ◌≤◌, IsTrue, IsSomeAnd, List, [], ◌∷◌, ◌++◌, flat_map, map, Option, Some, None, Contains, refl, sym, ap, ◌∙◌, subst, arith}
+use Rattle.std.proofs.Common.{◌≡◌, ◌↔◌, ◌⊎◌, inl, inr, ℕ, suc, ◌<◌, ◌≤◌, IsTrue, IsSomeAnd, List, [], ◌∷◌, ◌++◌, flat_map, map, Option, Some, None, Contains}
+use Rattle.std.proofs.Common.{refl, sym, ap, ◌∙◌, subst, arith}
 use Rattle.std.proofs.lemmas.Bool.{false≢true}
 use Rattle.std.proofs.lemmas.List.Elements.{Contains-append_left, Contains-append_right, Contains-append_cases}
 use Rattle.std.specs.List.{AllByRecursion}
@@ -241,7 +242,8 @@ module _ (l : LaidOut) (view : View) (a : Assignment) (first s : StoreMap) (at :
       IsTrue (set p)
   reached-in set bounded rooted closed c p (inl reached) here =
       let (r, at_r, on) = root-in set rooted reached.root reached.in_tree.root reached.listed reached.in_tree.named.value in
-      chain-linked s at looks.there looks.one (IsParent l.types s) (IsParent-live l.types s) reached.in_tree.root c reached.in_tree.path r p at_r here set bounded
+      chain-linked s at looks.there looks.one (IsParent l.types s) (IsParent-live l.types s) reached.in_tree.root c reached.in_tree.path r p at_r here set
+      bounded
       on closed
   reached-in set bounded rooted closed c p (inr (v, listed, holds)) here =
       let (r, at_r, on) = root-in set rooted v c listed holds in
@@ -329,7 +331,8 @@ module _ (l : LaidOut) (view : View) (a : Assignment) (first s : StoreMap) (at :
       (λ h. subst (λ (z : PositionSet). IsTrue (z p)) (sym (replace-same b next set)) h),
     )
 
-    pub part-means : WSat (is_part l.types (sight_of l.vars view) (map (value_of view.vars) roots) x next) b ↔ HasNamedPart l.types l.vars b at (track x) s roots
+    pub part-means : WSat (is_part l.types (sight_of l.vars view) (map (value_of view.vars) roots) x next) b ↔ HasNamedPart l.types l.vars b at (track x)
+        s roots
     part-means =
         let sight = sight_of l.vars view in
         let own = closes l.types sight (values roots) next x in
@@ -338,7 +341,8 @@ module _ (l : LaidOut) (view : View) (a : Assignment) (first s : StoreMap) (at :
         let here = closes-means b agrees x (b x) (λ p. ((λ h. h), (λ h. h))) next few below in
         let all = law-all2 next (imp wide (Sub (track x) (track next))) b agrees.finite in
         let others : (set : PositionSet) (finite : IsFiniteSet set) → WSat wide (replace b next set) ↔ (HasRoots set × IsClosed Parents set) = λ set finite.
-        closes-means (replace b next set) (Agrees-set count a b next set agrees few finite) next set (on-next set) (suc next) (omega (arith, few)) (omega arith) in
+        closes-means (replace b next set) (Agrees-set count a b next set agrees few finite) next set (on-next set) (suc next) (omega (arith, few))
+        (omega arith) in
         let follows = λ (set : PositionSet) (finite : IsFiniteSet set).
         law-imp wide (Sub (track x) (track next)) (replace b next set) (Agrees-set count a b next set agrees few finite).finite in
         let least = least-part (b x) (agrees.finite x) in (

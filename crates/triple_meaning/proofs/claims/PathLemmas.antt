@@ -1,5 +1,6 @@
 -- The fields of paths, and what they lead to, the last one first.
-use Rattle.std.proofs.Common.{◌≡◌, ◌⊎◌, inl, inr, Bool, true, false, cond, List, [], ◌∷◌, ◌++◌, reverse, unwrap_or, Option, Some, None, refl, sym, ap, ◌∙◌, subst}
+use Rattle.std.proofs.Common.{◌≡◌, ◌⊎◌, inl, inr, Bool, true, false, cond, List, [], ◌∷◌, ◌++◌, reverse, unwrap_or, Option, Some, None, refl, sym, ap, ◌∙◌}
+use Rattle.std.proofs.Common.{subst}
 use Rattle.std.proofs.lemmas.Bool.{false≢true}
 use Rattle.std.proofs.lemmas.List.{reverse-append}
 use Rattle.std.specs.Prelude.{IsTrue, IsSomeAnd, is_some}
@@ -75,7 +76,8 @@ live-cell t (value.Cells cells) c e = none-some c e
 live-cell t (value.Cell None) c e = none-some c e
 live-cell t (value.Cell (Some d)) c e = by (is_some (cell_of t d)) refl e
   where
-    by : (k : Bool) → is_some (cell_of t d) ≡ k → cell_in (cond k (value.Cell (Some d)) null) ≡ Some c → IsLive t c × (value.Cell (Some d) ≡ value.Cell (Some c))
+    by : (k : Bool) → is_some (cell_of t d) ≡ k → cell_in (cond k (value.Cell (Some d)) null) ≡ Some c → IsLive t c ×
+        (value.Cell (Some d) ≡ value.Cell (Some c))
     by true live q = (let same : d ≡ c = some-same d c q in (subst (λ z. IsLive t z) same live, ap (λ z. value.Cell (Some z)) same))
     by false dead q = none-some c q
 
@@ -163,7 +165,11 @@ truth-along types (f ∷ fields) start e =
         last = later.last;
         order = ap (λ fs. f ∷ fs) later.order;
         cell = cell;
-        cells = (of-some (λ entry. IsFollowed DataAndPointers entry.kind) (field_at types f) one.entry one.known (cell-followed one.entry.kind later.cell), later.cells);
+        cells = (
+          of-some (λ entry. IsFollowed DataAndPointers entry.kind) (field_at types f) one.entry one.known
+              (cell-followed one.entry.kind later.cell),
+          later.cells,
+        );
         entry = later.entry;
         known = later.known;
         is_bool = later.is_bool;

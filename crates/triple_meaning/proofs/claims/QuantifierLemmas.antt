@@ -46,7 +46,8 @@ module _ (l : LaidOut) (view : View) (a : Assignment) (first s t : StoreMap) (at
 
   -- what is inside means this of each value on the next track
   abbrev pub IsInner : Sort → Type 0
-  IsInner sort = (x : Value) (c : Assignment) → Agrees own b c → HasForm sort x → StandsFor c at (At (track own)) x → WSat (formula (suc own)) c ↔ Holding (under x e)
+  IsInner sort = (x : Value) (c : Assignment) → Agrees own b c → HasForm sort x → StandsFor c at (At (track own)) x → WSat (formula (suc own)) c ↔ Holding
+      (under x e)
 
   -- ---- over cells
 
@@ -58,7 +59,8 @@ module _ (l : LaidOut) (view : View) (a : Assignment) (first s t : StoreMap) (at
 
     lives-at : (p : Position) → WSat (lives_in l.types (sight_of l.vars view) (suc own) ty own) (with_position b own p) ↔ TypeAt t at ty p
     lives-at p =
-        looks.typed ty (with_position b own p) (suc own) own p (Agrees-bound count a b own p agrees few) (omega (arith, few)) (omega arith) (IsOnly-bound b own p)
+        looks.typed ty (with_position b own p) (suc own) own p (Agrees-bound count a b own p agrees few) (omega (arith, few)) (omega arith)
+        (IsOnly-bound b own p)
 
     pub some-cell-means : WSat (ex1 own (And (lives_in l.types (sight_of l.vars view) (suc own) ty own) (formula (suc own)))) b
         ↔ ((c : CellId) × IsOfType t ty c × Holding (under (value.Cell (Some c)) e))

@@ -35,7 +35,8 @@ module _ (l : LaidOut) (a : Assignment) (first s : StoreMap) (at : Standing) (co
   begun = at_start l.types l.vars
 
   pointers-mean : (inside : List VarId) (o : Option (List VarId)) → IsPartGiven l.types l.vars a at s count (track_count l.types l.vars) o →
-      EachSat b (option_map_or (λ (p : Track). Not (escapes l.vars inside begun.values p.0 next) ∷ []) (option_map (λ (roots : List VarId). track (track_count l.types l.vars)) o) [])
+      EachSat b (option_map_or (λ (p : Track). Not (escapes l.vars inside begun.values p.0 next) ∷ [])
+      (option_map (λ (roots : List VarId). track (track_count l.types l.vars)) o) [])
       ↔ IfSome o (λ part. Escapes l.types l.vars s part inside → ⊥)
   pointers-mean inside None given = ((λ h. tt), (λ h. tt))
   pointers-mean inside (Some roots) given =

@@ -1,5 +1,6 @@
 -- The formulas of paths and of terms.
-use Rattle.std.proofs.Common.{◌≡◌, ◌↔◌, inl, inr, ℕ, suc, ◌≤◌, true, IsTrue, List, [], ◌∷◌, reverse, unwrap_or, Option, Some, None, refl, sym, ap, ◌∙◌, subst, arith}
+use Rattle.std.proofs.Common.{◌≡◌, ◌↔◌, inl, inr, ℕ, suc, ◌≤◌, true, IsTrue, List, [], ◌∷◌, reverse, unwrap_or, Option, Some, None, refl, sym, ap, ◌∙◌, subst}
+use Rattle.std.proofs.Common.{arith}
 use Rattle.std.specs.List.{AllByRecursion}
 use Rattle.std.specs.Option.{option_and_then}
 use Rattle.std.proofs.lemmas.List.{reverse-append}
@@ -48,7 +49,8 @@ use Rattle.graph_meaning.proofs.walks.SeenLemmas.{ground, names-told}
 use Rattle.site_list.specs.Claims.{base_value, leads_to, is_value, leads_to_true, is_true_term}
 use Rattle.triple_meaning.specs.Claims.Bound.{scope_under, AreBound, TermAt}
 use Rattle.triple_meaning.proofs.claims.BoundLemmas.{none-some, agrees-on, NameStands, base-named, form-cell, form-truth}
-use Rattle.triple_meaning.proofs.claims.PathLemmas.{back, back-reverse, along-end, all-reverse, field-from, null-cell, null-true, live-cell, cell-live, true-in, in-true, IsCellField, cells-along, EndsInBool, truth-along}
+use Rattle.triple_meaning.proofs.claims.PathLemmas.{back, back-reverse, along-end, all-reverse, field-from, null-cell, null-true, live-cell, cell-live, true-in}
+use Rattle.triple_meaning.proofs.claims.PathLemmas.{in-true, IsCellField, cells-along, EndsInBool, truth-along}
 
 -- the value is a live cell that stands there
 abbrev pub ValueAt : StoreMap → Standing → Value → Position → Type 0
@@ -156,7 +158,8 @@ module _ (l : LaidOut) (view : View) (a : Assignment) (first s t : StoreMap) (at
           some.1 (q, (c, here, lives, is, held))),
     )
       where
-        each : (q : Position) → WSat (And (leads_to l.types sight u fs (suc own) own) (is_true l.types sight (suc own) f own)) (with_position b own q) ↔ TrueAt fs f q
+        each : (q : Position) → WSat (And (leads_to l.types sight u fs (suc own) own) (is_true l.types sight (suc own) f own)) (with_position b own q) ↔
+            TrueAt fs f q
         each q =
             let g = with_position b own q in
             let bound = Agrees-bound own b b own q (Agrees-itself own b agrees.finite) (omega arith) in
@@ -164,7 +167,8 @@ module _ (l : LaidOut) (view : View) (a : Assignment) (first s t : StoreMap) (at
             let path = leads-means fs fine g (suc own) own q bound (omega arith) (omega arith) at_q in
             let so : (c : CellId) → IsAt at c q → IsLive t c → WSat (is_true l.types sight (suc own) f own) g ↔ (field_value t c f ≡ Some (value.Bool true))
             = λ c here lives.
-            looks.truth f entry g (suc own) own q c there kind (agrees-on count own a b g agrees few bound) (omega (arith, few)) (omega arith) at_q here lives in
+            looks.truth f entry g (suc own) own q c there kind (agrees-on count own a b g agrees few bound) (omega (arith, few)) (omega arith) at_q here
+            lives in
             let both = WSat-And (leads_to l.types sight u fs (suc own) own) (is_true l.types sight (suc own) f own) g in (
               (λ h.
                   let k = both.0 h in
@@ -228,7 +232,8 @@ module _ (l : LaidOut) (view : View) (a : Assignment) (first s t : StoreMap) (at
     term-truth-means (term.At name fields) fits = by (base_sort (scope_under l.vars sorts) name) refl fits
       where
         -- a name alone
-        alone : NameStands own b at (sym_at_name name) (value_at_name name) Truth → WSat (truth own (sym_at_name name)) b ↔ IsTrue (truth_in (live_value t (value_at_name name)))
+        alone : NameStands own b at (sym_at_name name) (value_at_name name) Truth → WSat (truth own (sym_at_name name)) b ↔ IsTrue
+            (truth_in (live_value t (value_at_name name)))
         alone named =
             let (k, held) = form-truth (value_at_name name) named.form in
             let means = truth-means own b b own at s (sym_at_name name) (value.Bool k) (Agrees-itself own b agrees.finite) (omega arith)
@@ -238,10 +243,12 @@ module _ (l : LaidOut) (view : View) (a : Assignment) (first s t : StoreMap) (at
             )
 
         behind : (start : Sort) → NameStands own b at (sym_at_name name) (value_at_name name) start → EndsInBool l.types start fields →
-            WSat (leads_to_true l.types sight (sym_at_name name) (reverse fields) own) b ↔ IsTrue (truth_in (live_value t (value_along t (value_at_name name) fields)))
+            WSat (leads_to_true l.types sight (sym_at_name name) (reverse fields) own) b ↔ IsTrue
+            (truth_in (live_value t (value_along t (value_at_name name) fields)))
         behind start named ends =
             let (o, held) = form-cell start (value_at_name name) ends.cell named.form in
-            let means = true-means own b agrees few (sym_at_name name) o named.below (subst (λ w. StandsFor b at (sym_at_name name) w) held named.stands) (reverse ends.before) ends.last ends.entry
+            let means = true-means own b agrees few (sym_at_name name) o named.below (subst (λ w. StandsFor b at (sym_at_name name) w) held named.stands)
+            (reverse ends.before) ends.last ends.entry
             (all-reverse (IsCellField l.types) ends.before ends.cells) ends.known ends.is_bool in
             let order : reverse fields ≡ ends.last ∷ reverse ends.before = ap reverse ends.order ∙ reverse-append ends.before (ends.last ∷ []) in
             let same : field_of_value t (back t (value.Cell o) (reverse ends.before)) ends.last ≡ value_along t (value_at_name name) fields =
@@ -256,13 +263,16 @@ module _ (l : LaidOut) (view : View) (a : Assignment) (first s t : StoreMap) (at
             )
 
         by : (k : Option Sort) → base_sort (scope_under l.vars sorts) name ≡ k → option_and_then (λ start. sort_along l.types start fields) k ≡ Some Truth →
-            WSat (leads_to_true l.types sight (sym_at_name name) (reverse fields) own) b ↔ IsTrue (truth_in (live_value t (value_along t (value_at_name name) fields)))
+            WSat (leads_to_true l.types sight (sym_at_name name) (reverse fields) own) b ↔ IsTrue
+            (truth_in (live_value t (value_along t (value_at_name name) fields)))
         by None is q = none-some Truth q
         by (Some start) is q =
             let named = base-named l view a first s t at count wells.shows own b agrees few sorts e name start bound is in
             elim (truth-along l.types fields start q) as
-            (λ _. WSat (leads_to_true l.types sight (sym_at_name name) (reverse fields) own) b ↔ IsTrue (truth_in (live_value t (value_along t (value_at_name name) fields)))) [
-              | inl end ↦ subst (λ fs. WSat (leads_to_true l.types sight (sym_at_name name) (reverse fs) own) b ↔ IsTrue (truth_in (live_value t (value_along t (value_at_name name) fs)))) (sym end.1)
+            (λ _. WSat (leads_to_true l.types sight (sym_at_name name) (reverse fields) own) b ↔ IsTrue
+            (truth_in (live_value t (value_along t (value_at_name name) fields)))) [
+              | inl end ↦ subst (λ fs. WSat (leads_to_true l.types sight (sym_at_name name) (reverse fs) own) b ↔ IsTrue
+                  (truth_in (live_value t (value_along t (value_at_name name) fs)))) (sym end.1)
                   (alone (subst (λ k. NameStands own b at (sym_at_name name) (value_at_name name) k) end.0 named))
               | inr ends ↦ behind start named ends
             ]

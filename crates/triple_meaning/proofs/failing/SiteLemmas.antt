@@ -1,5 +1,6 @@
 -- The formula of a site: the tree, the start, and the place.
-use Rattle.std.proofs.Common.{◌≡◌, ◌↔◌, ℕ, ◌≤◌, List, [], ◌∷◌, ◌++◌, length, map, slice_get, All, Option, Some, None, IfSome, IsSomeAnd, refl, sym, ap, ◌∙◌, subst, arith}
+use Rattle.std.proofs.Common.{◌≡◌, ◌↔◌, ℕ, ◌≤◌, List, [], ◌∷◌, ◌++◌, length, map, slice_get, All, Option, Some, None, IfSome, IsSomeAnd, refl, sym, ap, ◌∙◌}
+use Rattle.std.proofs.Common.{subst, arith}
 use Rattle.std.specs.Prelude.{option_map}
 use Rattle.gta_theory.specs.Assignments.{Assignment, IsFinite}
 use Rattle.ws2s_core.specs.declared.formula.Formula.{Formula}
@@ -88,7 +89,8 @@ module _ (types : List TypeEntry) (vars : List VarEntry) (t : Triple) (posed : I
   satisfied-place site h = by (slice_get (walked types vars t).checks site) refl
     where
       by : (o : Option Check) → slice_get (walked types vars t).checks site ≡ o → (c : Check) × (slice_get (walked types vars t).checks site ≡ Some c)
-      by None is = (let none : None ≡ Some h.formula = sym (ap (λ o. option_map (site_formula_at types vars t (walked types vars t) from) o) is) ∙ h.there in cc)
+      by None is = (let none : None ≡ Some h.formula = sym (ap (λ o. option_map (site_formula_at types vars t (walked types vars t) from) o) is) ∙ h.there
+          in cc)
       by (Some c) is = (c, is)
 
   -- ---- trees

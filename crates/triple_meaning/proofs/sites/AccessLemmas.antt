@@ -1,5 +1,6 @@
 -- Reading and writing through a cell: where a cause comes.
-use Rattle.std.proofs.Common.{◌≡◌, ◌↔◌, ℕ, suc, cond, IsSome, IfSome, List, [], ◌∷◌, ◌++◌, Option, Some, None, is_some, Ok, Err, refl, sym, ap, ◌∙◌, subst, arith, append_assoc, append-nil}
+use Rattle.std.proofs.Common.{◌≡◌, ◌↔◌, ℕ, suc, cond, IsSome, IfSome, List, [], ◌∷◌, ◌++◌, Option, Some, None, is_some, Ok, Err, refl, sym, ap, ◌∙◌, subst}
+use Rattle.std.proofs.Common.{arith, append_assoc, append-nil}
 use Rattle.std.specs.Option.{option_map_or, ok_or}
 use Rattle.std.proofs.lemmas.Bool.{false≢true}
 use Rattle.gta_theory.specs.Assignments.{Position, Assignment}
@@ -196,7 +197,8 @@ module _ (types : List TypeEntry) (vars : List VarEntry) (next : ℕ) (a : Assig
           sat-three (suc next) (is_in (suc next) next u) (is_live types (sight vars s) (suc next) next) (Not (has types (sight vars s) (suc next) f next))
           (with_position a next p) (IsAt at c p) (LiveAt t at p) (FieldAt t at f p → ⊥)
           (is_in-cell next a (with_position a next p) (suc next) next p at u c (agrees p) under (IsOnly-bound a next p) (sits.one c) stands)
-          (sees-live types vars next a first s t at sees (with_position a next p) (suc next) next p (agrees p) (omega arith) (omega arith) (IsOnly-bound a next p))
+          (sees-live types vars next a first s t at sees (with_position a next p) (suc next) next p (agrees p) (omega arith) (omega arith)
+          (IsOnly-bound a next p))
           (sat-not (has types (sight vars s) (suc next) f next) (with_position a next p) (FieldAt t at f p)
           (sees-has types vars next a first s t at sees f entry there (with_position a next p) (suc next) next p (agrees p) (omega arith) (omega arith)
           (IsOnly-bound a next p))))
@@ -214,7 +216,8 @@ module _ (types : List TypeEntry) (vars : List VarEntry) (next : ℕ) (a : Assig
           let of_v : IsOfVariant t (variant_in f.ty cell.variant.index) c =
           of-some (λ e. e.variant ≡ variant_in f.ty cell.variant.index) (cell_of t c) cell is (ap (λ y. variant_in y cell.variant.index) of_type) in
           let fitting : AreFitting types t t = read-fitting types vars a at None t t sees.seen.fits refl in
-          let (d, at_d, has_f) = had-field types t t at fitting f entry cell.variant.index p there (common-had entry cell.variant.index common) (c, at_p, of_v) in
+          let (d, at_d, has_f) = had-field types t t at fitting f entry cell.variant.index p there (common-had entry cell.variant.index common)
+          (c, at_p, of_v) in
           subst (λ e. IsSome (field_value t e f)) (sits.apart d c p at_d at_p) has_f
 
   -- a live cell with the field

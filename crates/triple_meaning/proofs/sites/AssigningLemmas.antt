@@ -1,5 +1,6 @@
 -- Assignments: to a variable, and to a field of what a path leads to.
-use Rattle.std.proofs.Common.{◌≡◌, ℕ, Bool, true, false, cond, IsSome, IsSomeAnd, IfSome, List, [], ◌∷◌, ◌++◌, length, Option, Some, None, is_some, All, Result, Ok, Err, refl, sym, ap, ◌∙◌, subst, arith, append-nil, append_assoc, length-set}
+use Rattle.std.proofs.Common.{◌≡◌, ℕ, Bool, true, false, cond, IsSome, IsSomeAnd, IfSome, List, [], ◌∷◌, ◌++◌, length, Option, Some, None, is_some, All, Result}
+use Rattle.std.proofs.Common.{Ok, Err, refl, sym, ap, ◌∙◌, subst, arith, append-nil, append_assoc, length-set}
 use Rattle.std.specs.Option.{ok_or}
 use Rattle.std.proofs.lemmas.List.{length-append}
 use Rattle.std.proofs.lemmas.List.Elements.{All-set}
@@ -244,7 +245,8 @@ module _ (types : List TypeEntry) (vars : List VarEntry) (line : ℕ) (s : State
         (answers-so next a checks_now line (written (g.0) (one_value.Cell (cell.0)) f (g.1)) (IsSeenThen types vars next a first after)
         (stops-written next a checks_now line (g.0) (one_value.Cell (cell.0)) f (g.1)
         (stops-read types vars next a first (now.1) (g.0) places sees_now line (guard (now.1))
-        ((reached-guard types vars line (now.1) next a sees.over.finite sees_now.below.guard).1 taken_now) (got.0) under f entry (cell.0) there later.0 later.1))
+        ((reached-guard types vars line (now.1) next a sees.over.finite sees_now.below.guard).1 taken_now) (got.0) under f entry (cell.0) there later.0
+        later.1))
         (λ u u_is well. (places, seen-then u u_is well)))
       where
         cell : (o : Option CellId) × (y ≡ one_value.Cell o) × IfSome o (NamesType t f.ty)
@@ -333,7 +335,8 @@ module _ (types : List TypeEntry) (vars : List VarEntry) (line : ℕ) (s : State
   -- what a place gets, once what has come is known
   abbrev place_result : FieldId → List FieldId → (StoreMap → Result Value Cause) → StoreMap → Result StoreMap Cause
   place_result f fields value t =
-      and_then (λ (step : Value × FieldId). and_then (λ (g : StoreMap × Value). written g.0 step.0 step.1 g.1) (exec.evaluated types t x)) (and_then (λ y. last_step t y f fields) (value t))
+      and_then (λ (step : Value × FieldId). and_then (λ (g : StoreMap × Value). written g.0 step.0 step.1 g.1) (exec.evaluated types t x))
+      (and_then (λ y. last_step t y f fields) (value t))
 
   leads-same : (after : State) (one other : StoreMap → Result StoreMap Cause) → ((t : StoreMap) → one t ≡ other t) →
       Leads types vars s after (λ t end. EndsBy line (one t) end) → Leads types vars s after (λ t end. EndsBy line (other t) end)
@@ -342,7 +345,8 @@ module _ (types : List TypeEntry) (vars : List VarEntry) (line : ℕ) (s : State
 
   last-same : (f : FieldId) (t : StoreMap) (r : Result Value Cause) →
       and_then (λ y. and_then (λ (g : StoreMap × Value). written g.0 y f g.1) (exec.evaluated types t x)) r
-      ≡ and_then (λ (step : Value × FieldId). and_then (λ (g : StoreMap × Value). written g.0 step.0 step.1 g.1) (exec.evaluated types t x)) (and_then (λ y. Ok (y, f)) r)
+      ≡ and_then (λ (step : Value × FieldId). and_then (λ (g : StoreMap × Value). written g.0 step.0 step.1 g.1) (exec.evaluated types t x))
+      (and_then (λ y. Ok (y, f)) r)
   last-same f t (Err why) = refl
   last-same f t (Ok y) = refl
 

@@ -1,5 +1,6 @@
 -- Where the walk over a triple's code begins: the store of the tree.
-use Rattle.std.proofs.Common.{◌≡◌, ℕ, zero, suc, ◌+◌, ◌<◌, ◌≤◌, Bool, true, cond, List, [], ◌∷◌, take, slice_get, unwrap_or, Some, inl, inr, refl, sym, ap, ◌∙◌, arith}
+use Rattle.std.proofs.Common.{◌≡◌, ℕ, zero, suc, ◌+◌, ◌<◌, ◌≤◌, Bool, true, cond, List, [], ◌∷◌, take, slice_get, unwrap_or, Some, inl, inr, refl, sym, ap, ◌∙◌}
+use Rattle.std.proofs.Common.{arith}
 use Rattle.std.specs.Prelude.{count_by}
 use Rattle.std.proofs.lemmas.List.Sums.{sum_by-cons}
 use Rattle.gta_theory.specs.Assignments.{Assignment}
@@ -63,7 +64,8 @@ first-spare types vars s at stand k c here =
       | inl none ↦ (
           let same = slots-apart (var_slots vars + k) n (placed.position ∙ ap (λ l. below types (slot_of n) l) none.0) in
           let impossible : ⊥ = omega (arith, same, is_n, within) in impossible)
-      | inr more ↦ slot-not_child (var_slots vars + k) (unwrap_or (child_number types more.last) 0) (below types (slot_of n) more.before) (below-ends types (slot_of n) more.before (slot-ends n))
+      | inr more ↦ slot-not_child (var_slots vars + k) (unwrap_or (child_number types more.last) 0) (below types (slot_of n) more.before)
+          (below-ends types (slot_of n) more.before (slot-ends n))
           (placed.position ∙ ap (λ l. below types (slot_of n) l) more.is ∙ below-last types (slot_of n) more.before more.last)
     ]
 

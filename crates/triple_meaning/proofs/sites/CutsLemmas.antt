@@ -1,5 +1,6 @@
 -- Arriving at a cut: the places, and which cause comes first at them.
-use Rattle.std.proofs.Common.{◌≡◌, ◌↔◌, ℕ, ◌<◌, List, [], ◌∷◌, ◌++◌, map, slice_get, IfSome, IsSomeAnd, Option, Some, None, refl, sym, ap, ◌∙◌, subst, arith, append-nil, append_assoc}
+use Rattle.std.proofs.Common.{◌≡◌, ◌↔◌, ℕ, ◌<◌, List, [], ◌∷◌, ◌++◌, map, slice_get, IfSome, IsSomeAnd, Option, Some, None, refl, sym, ap, ◌∙◌, subst, arith}
+use Rattle.std.proofs.Common.{append-nil, append_assoc}
 use Rattle.std.specs.Option.{option_map_or}
 use Rattle.std.proofs.lemmas.List.{length-append}
 use Rattle.std.proofs.lemmas.List.Elements.{All-head}
@@ -132,7 +133,8 @@ module _ (types : List TypeEntry) (vars : List VarEntry) (cut : Cut) (next : ℕ
   -- the first of the four
   first-dangling : (rest : List Check) → Wrong cause.DanglingRef → ComesFirst next a (c1 ∷ c2 ∷ c3 ∷ c4 ∷ rest) cause.DanglingRef cut.line
   first-dangling rest is =
-      first-of next a (c1 ∷ c2 ∷ c3 ∷ c4 ∷ rest) [] (c2 ∷ c3 ∷ c4 ∷ rest) c1 cause.DanglingRef cut.line refl (none-none next a) (here, told.dangling.1 is) refl refl
+      first-of next a (c1 ∷ c2 ∷ c3 ∷ c4 ∷ rest) [] (c2 ∷ c3 ∷ c4 ∷ rest) c1 cause.DanglingRef cut.line refl (none-none next a) (here, told.dangling.1 is)
+      refl refl
 
   first-shared : (rest : List Check) → Wrong cause.Shared → (Wrong cause.DanglingRef → ⊥) →
       ComesFirst next a (c1 ∷ c2 ∷ c3 ∷ c4 ∷ rest) cause.Shared cut.line
@@ -147,7 +149,8 @@ module _ (types : List TypeEntry) (vars : List VarEntry) (cut : Cut) (next : ℕ
   first-wrong : (rest : List Check) → Wrong cause.Field → (Wrong cause.DanglingRef → ⊥) → (Wrong cause.Shared → ⊥) → (Wrong cause.Leak → ⊥) →
       ComesFirst next a (c1 ∷ c2 ∷ c3 ∷ c4 ∷ rest) cause.Field cut.line
   first-wrong rest is no1 no2 no3 =
-      first-of next a (c1 ∷ c2 ∷ c3 ∷ c4 ∷ rest) (c1 ∷ c2 ∷ c3 ∷ []) rest c4 cause.Field cut.line refl (none-three no1 no2 no3) (here, told.wrong.1 is) refl refl
+      first-of next a (c1 ∷ c2 ∷ c3 ∷ c4 ∷ rest) (c1 ∷ c2 ∷ c3 ∷ []) rest c4 cause.Field cut.line refl (none-three no1 no2 no3) (here, told.wrong.1 is)
+      refl refl
 
   -- ---- without a handed part
 
@@ -165,7 +168,8 @@ module _ (types : List TypeEntry) (vars : List VarEntry) (cut : Cut) (next : ℕ
 
     alone-comes : (why : Option Cause) → AtCut types vars cut t why → ComesAtCut next a (alone_checks types vars cut s) cut.line why
     alone-comes None right =
-        none-before (last ∷ []) (right cause.DanglingRef) (right cause.Shared) (right cause.Leak) (right cause.Field) (none-last (right cause.DanglingRef) (right cause.Post))
+        none-before (last ∷ []) (right cause.DanglingRef) (right cause.Shared) (right cause.Leak) (right cause.Field)
+        (none-last (right cause.DanglingRef) (right cause.Post))
     alone-comes (Some cause.DanglingRef) is = first-dangling (last ∷ []) is.here
     alone-comes (Some cause.Shared) is = first-shared (last ∷ []) is.here (is.before cause.DanglingRef (omega arith))
     alone-comes (Some cause.Leak) is =
@@ -177,7 +181,8 @@ module _ (types : List TypeEntry) (vars : List VarEntry) (cut : Cut) (next : ℕ
     alone-comes (Some cause.Post) is =
         let no1 = is.before cause.DanglingRef (omega arith) in
         first-of next a (alone_checks types vars cut s) (c1 ∷ c2 ∷ c3 ∷ c4 ∷ []) [] last cause.Post cut.line refl
-        (none-before [] no1 (is.before cause.Shared (omega arith)) (is.before cause.Leak (omega arith)) (is.before cause.Field (omega arith)) (none-none next a))
+        (none-before [] no1 (is.before cause.Shared (omega arith)) (is.before cause.Leak (omega arith)) (is.before cause.Field (omega arith))
+        (none-none next a))
         (here, (WSat-Not (claims types vars cut.asserts None s next) a).1 (λ h. is.here ((claimed no1).0 h))) refl refl
     alone-comes (Some cause.Null) is = absurd is.here
     alone-comes (Some cause.Dangling) is = absurd is.here
@@ -224,7 +229,8 @@ module _ (types : List TypeEntry) (vars : List VarEntry) (cut : Cut) (next : ℕ
     call-comes (Some cause.Escape) is =
         let no1 = is.before cause.DanglingRef (omega arith) in
         first-of next a (call_checks types vars cut p s) (c1 ∷ c2 ∷ c3 ∷ c4 ∷ []) (sixth ∷ []) fifth cause.Escape cut.line refl
-        (none-before [] no1 (is.before cause.Shared (omega arith)) (is.before cause.Leak (omega arith)) (is.before cause.Field (omega arith)) (none-none next a))
+        (none-before [] no1 (is.before cause.Shared (omega arith)) (is.before cause.Leak (omega arith)) (is.before cause.Field (omega arith))
+        (none-none next a))
         (here, (claimed no1).0.1 (escape-is.0 is.here)) refl refl
     call-comes (Some cause.Post) is =
         let no1 = is.before cause.DanglingRef (omega arith) in
@@ -274,7 +280,8 @@ module _ (types : List TypeEntry) (vars : List VarEntry) (cuts : List Cut) (plac
     news = omega arith;
     reached = λ next a first t at out sees room defined taken is.
         end-here next a (alone_checks types vars cut s) t out is
-        (alone-comes types vars cut next a s t (conditions next a first s t at sees) ((reached-guard types vars cut.line s next a sees.over.finite sees.below.guard).1 taken) alone
+        (alone-comes types vars cut next a s t (conditions next a first s t at sees)
+        ((reached-guard types vars cut.line s next a sees.over.finite sees.below.guard).1 taken) alone
         (meant.alone alone next a first s t at sees));
     idle = λ next a finite room defined below guarded passed.
         let out = λ (h : WSat (guard s next) a). passed ((reached-guard types vars cut.line s next a finite below).0 h) in

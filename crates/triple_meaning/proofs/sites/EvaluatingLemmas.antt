@@ -1,5 +1,6 @@
 -- What is assigned: a cell that is read, a truth value on a track that is made, or a new cell.
-use Rattle.std.proofs.Common.{◌≡◌, ◌↔◌, inl, inr, ℕ, ◌+◌, ◌<◌, ◌≤◌, Bool, true, false, IsTrue, IfSome, List, [], ◌∷◌, ◌++◌, Option, Some, None, Result, Ok, Err, refl, sym, ap, subst, arith, append-nil}
+use Rattle.std.proofs.Common.{◌≡◌, ◌↔◌, inl, inr, ℕ, ◌+◌, ◌<◌, ◌≤◌, Bool, true, false, IsTrue, IfSome, List, [], ◌∷◌, ◌++◌, Option, Some, None, Result, Ok, Err}
+use Rattle.std.proofs.Common.{refl, sym, ap, subst, arith, append-nil}
 use Rattle.std.proofs.lemmas.List.{length-append}
 use Rattle.std.proofs.lemmas.List.Elements.{All-head}
 use Rattle.gta_theory.specs.Assignments.{Position, Assignment, IsFinite, IsOnly}
@@ -125,7 +126,12 @@ module _ (types : List TypeEntry) (vars : List VarEntry) (line : ℕ) (s : State
     reached = λ next a first t at sees room defined taken.
         answers-made next a reads.means.added line (value t) (λ x. (t, x)) (λ x. StandsFor a at (got.0) x)
         (IsEvaluated types vars next a first (got.1) (got.0) t at)
-        (λ x is stands. (at, means-sees (got.1) (λ next a at x. StandsFor a at (got.0) x) value reads.means next a first t at sees room, stands, stays-same a t at))
+        (λ x is stands. (
+          at,
+          means-sees (got.1) (λ next a at x. StandsFor a at (got.0) x) value reads.means next a first t at sees room,
+          stands,
+          stays-same a t at,
+        ))
         (reads.means.told next a first t at sees room defined ((reached-guard next a sees.over.finite sees.below.guard).1 taken));
   }
 

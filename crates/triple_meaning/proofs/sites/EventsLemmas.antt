@@ -1,5 +1,6 @@
 -- Stores that are seen after one event or one assignment more.
-use Rattle.std.proofs.Common.{◌≡◌, ◌≢◌, inl, inr, ℕ, zero, suc, ◌+◌, Bool, true, false, IsSome, IsSomeAnd, IfSome, List, [], ◌∷◌, slice_get, set, Contains, Option, Some, None, refl, sym, ap, ap₂, ◌∙◌, subst, arith, length-set, ◌==◌, eqb-true, eq-eqb}
+use Rattle.std.proofs.Common.{◌≡◌, ◌≢◌, inl, inr, ℕ, zero, suc, ◌+◌, Bool, true, false, IsSome, IsSomeAnd, IfSome, List, [], ◌∷◌, slice_get, set, Contains}
+use Rattle.std.proofs.Common.{Option, Some, None, refl, sym, ap, ap₂, ◌∙◌, subst, arith, length-set, ◌==◌, eqb-true, eq-eqb}
 use Rattle.std.proofs.lemmas.Bool.{false≢true}
 use Rattle.std.specs.Ordering.{nat_cmp}
 use Rattle.std.specs.Option.{option_map_or, option_and_then}
@@ -16,7 +17,8 @@ use Rattle.store_core.specs.declared.kind.FieldKind.TheVariants as field
 use Rattle.store_core.specs.declared.value.Value.{Value}
 use Rattle.store_core.specs.declared.value.Value.TheVariants as value
 use Rattle.store_core.specs.Tables.{TypeEntry, FieldEntry, VarEntry, KnowsVariant, field_at}
-use Rattle.store_core.specs.Stores.{StoreMap, CellEntry, IsLive, Fits, FieldFits, NamesType, cell_of, field_of, field_value, var_value, blank_cell, with_field, put_cell, set_field, set_var, remove_cell}
+use Rattle.store_core.specs.Stores.{StoreMap, CellEntry, IsLive, Fits, FieldFits, NamesType, cell_of, field_of, field_value, var_value, blank_cell, with_field}
+use Rattle.store_core.specs.Stores.{put_cell, set_field, set_var, remove_cell}
 use Rattle.store_core.proofs.FittingLemmas.{IfSome-from, IfSome-at, IsSomeAnd-at}
 use Rattle.store_laws.proofs.CellLemmas.{get-set_elsewhere}
 use Rattle.ws2s_core.specs.declared.track.Track.{Track}

@@ -165,7 +165,8 @@ module _ (types : List TypeEntry) (vars : List VarEntry) (line : ℕ) (s : State
         below = below-then;
         reached = λ next a first t at end sees room defined taken ends.
             follows-by types vars next a first after checks line (exec.freed t (variable t v)) (answers-freed next a first t at sees room taken)
-            (λ w e. Step-keeps types vars t sees.seen.fits sees.fresh (act.Free v) w (of-some (λ (k : VarEntry). HoldsCell k.kind) (var_at vars v) entry there holds) e)
+            (λ w e. Step-keeps types vars t sees.seen.fits sees.fresh (act.Free v) w
+            (of-some (λ (k : VarEntry). HoldsCell k.kind) (var_at vars v) entry there holds) e)
             end ends;
         idle = λ next a finite room defined below guarded passed. record {
           none = none-cons next a (null_check line (guard s) u) (freed_check ∷ [])

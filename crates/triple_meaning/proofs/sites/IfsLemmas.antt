@@ -1,5 +1,6 @@
 -- Plain ifs: two ways with a guard each, and the values after both.
-use Rattle.std.proofs.Common.{◌≡◌, ◌↔◌, ℕ, suc, ◌<◌, Bool, true, false, IfSome, List, [], ◌∷◌, ◌++◌, length, slice_get, Some, Result, Ok, Err, refl, sym, ap, ◌∙◌, subst, arith, append-nil, append_assoc}
+use Rattle.std.proofs.Common.{◌≡◌, ◌↔◌, ℕ, suc, ◌<◌, Bool, true, false, IfSome, List, [], ◌∷◌, ◌++◌, length, slice_get, Some, Result, Ok, Err, refl, sym, ap}
+use Rattle.std.proofs.Common.{◌∙◌, subst, arith, append-nil, append_assoc}
 use Rattle.std.proofs.lemmas.Bool.{false≢true}
 use Rattle.std.proofs.lemmas.List.{length-append}
 use Rattle.std.proofs.lemmas.List.Elements.{All-head}
@@ -264,7 +265,8 @@ module _ (types : List TypeEntry) (vars : List VarEntry) (line : ℕ) (s : State
           seen = subst (λ es. IsSeen types vars (merge.0) es a first u at) (sym (ap (λ (z : State). z.events) join-is))
               (seen-valued types vars values (merge.0) other_end.events a first u at same stands seen);
           fresh = fresh;
-          spare = λ k above c here. spare k (let same_news : end_state.news ≡ other_end.news = ap (λ (z : State). z.news) join-is in omega (arith, above, same_news))
+          spare = λ k above c here. spare k (let same_news : end_state.news ≡ other_end.news = ap (λ (z : State). z.news) join-is in omega
+              (arith, above, same_news))
               c here;
         }
 

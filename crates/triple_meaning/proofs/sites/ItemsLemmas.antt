@@ -64,7 +64,8 @@ module _ (types : List TypeEntry) (vars : List VarEntry) (meant : AreAssertionsM
       ((z : State) → Leads types vars z (items types vars rest z) (λ t end. RunsItems types rest t end)) →
       Leads types vars s (items types vars (i ∷ rest) s) (λ t end. RunsItems types (i ∷ rest) t end)
   in-front i rest s mid is one others =
-      leads-then types vars s (codes.item types vars i s) (items types vars (i ∷ rest) s) (λ t end. RunsItem types i t end) (λ t end. RunsItems types rest t end)
+      leads-then types vars s (codes.item types vars i s) (items types vars (i ∷ rest) s) (λ t end. RunsItem types i t end)
+      (λ t end. RunsItems types rest t end)
       (subst (λ z. Leads types vars s z (λ t end. RunsItem types i t end)) (sym is) one) (others (codes.item types vars i s))
 
   act-meant : (line : ℕ) (a : Act) (rest : List Item) → AreMeant rest → AreMeant (item.Do line a ∷ rest)
@@ -85,7 +86,8 @@ module _ (types : List TypeEntry) (vars : List VarEntry) (meant : AreAssertionsM
       let go : Going = in_order (map (codes.item types vars) taken) in
       let go_other : Going = in_order (map (codes.item types vars) other) in
       in-front (item.If line c taken other) rest s (plain_if types vars go go_other told) (item-If line c taken other s)
-      (leads-by types vars s (plain_if types vars go go_other told) (λ t end. ByTruth line (truth_of t c) (RunsItems types taken t) (RunsItems types other t) end)
+      (leads-by types vars s (plain_if types vars go go_other told)
+      (λ t end. ByTruth line (truth_of t c) (RunsItems types taken t) (RunsItems types other t) end)
       (λ t end. RunsItem types (item.If line c taken other) t end) (λ t end. (RunsItem-If types line c taken other t end).0)
       (if-leads types vars line s told (λ t. truth_of t c) (condition-means types vars line c parts.0 (guard s) s) go go_other
       (λ t end. RunsItems types taken t end) (λ t end. RunsItems types other t end) (way-meant taken one parts.1) (way-meant other two parts.2)))

@@ -126,7 +126,8 @@ module _ (types : List TypeEntry) (vars : List VarEntry) (next : ℕ) (a : Assig
       IsLive t c → WSat (names types (sight vars s) n f x y) b ↔ FieldNamesAt t at c f q
   sees-names f entry b n x y p q c there follows agrees few before behind only also here live =
       subst (λ k. WSat (names types k n f x y) b ↔ FieldNamesAt t at c f q) sight-is
-      (names-told l view a first t t at next shows sees.over.table sees.over.well f entry b n x y p q c there follows agrees few before behind only also here live)
+      (names-told l view a first t t at next shows sees.over.table sees.over.well f entry b n x y p q c there follows agrees few before behind only also
+      here live)
 
   pub sees-placed : (f : FieldId) (entry : FieldEntry) → field_at types f ≡ Some entry → IsFollowed DataAndPointers entry.kind → NamesPlaced f t at
   sees-placed f entry there follows = named-placed l view a first t t at next shows sees.over.table sees.over.well f entry there follows

@@ -1,5 +1,6 @@
 -- Reading of cell fields, of paths to cells and of operands.
-use Rattle.std.proofs.Common.{◌≡◌, ◌↔◌, ℕ, suc, ◌<◌, Bool, true, false, cond, ◌==◌, eqb-true, IsTrue, IfSome, List, [], ◌∷◌, ◌++◌, slice_get, All, Option, Some, None, is_some, unwrap_or, Result, Ok, Err, refl, sym, ap, ◌∙◌, subst, arith, append_assoc}
+use Rattle.std.proofs.Common.{◌≡◌, ◌↔◌, ℕ, suc, ◌<◌, Bool, true, false, cond, ◌==◌, eqb-true, IsTrue, IfSome, List, [], ◌∷◌, ◌++◌, slice_get, All, Option, Some}
+use Rattle.std.proofs.Common.{None, is_some, unwrap_or, Result, Ok, Err, refl, sym, ap, ◌∙◌, subst, arith, append_assoc}
 use Rattle.std.specs.Option.{option_and_then, ok_or}
 use Rattle.std.proofs.lemmas.Bool.{false≢true}
 use Rattle.std.proofs.lemmas.List.{length-append}

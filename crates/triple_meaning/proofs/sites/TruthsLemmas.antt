@@ -1,5 +1,6 @@
 -- Reading of bool fields and bool variables, tests of variants, and whether two values are the same.
-use Rattle.std.proofs.Common.{◌≡◌, ◌↔◌, ℕ, suc, ◌<◌, Bool, true, false, cond, eqb-true, eq-eqb, IsTrue, List, [], ◌∷◌, Option, Some, None, is_some, Result, Ok, Err, refl, sym, ap, ◌∙◌, subst, arith}
+use Rattle.std.proofs.Common.{◌≡◌, ◌↔◌, ℕ, suc, ◌<◌, Bool, true, false, cond, eqb-true, eq-eqb, IsTrue, List, [], ◌∷◌, Option, Some, None, is_some, Result, Ok}
+use Rattle.std.proofs.Common.{Err, refl, sym, ap, ◌∙◌, subst, arith}
 use Rattle.std.specs.Option.{option_map_or, option_and_then}
 use Rattle.std.proofs.lemmas.Bool.{false≢true}
 use Rattle.gta_theory.specs.Assignments.{Position, Assignment, IsOnly}
@@ -52,8 +53,10 @@ use Rattle.triple_meaning.specs.Sites.Answering.{Tells}
 use Rattle.triple_meaning.proofs.sites.PlacesLemmas.{answers-so}
 use Rattle.triple_meaning.proofs.sites.StatesLemmas.{Goes, means-at_once, means-then}
 use Rattle.triple_meaning.proofs.sites.LookingLemmas.{sees-sits, here-itself, sees-truth, sees-variant, some-cell}
-use Rattle.triple_meaning.proofs.sites.AccessLemmas.{cell_checks, access_checks, cell-is, access-is, cell-idle, access-idle, stops-null, stops-dead, passes-live, stops-read}
-use Rattle.triple_meaning.proofs.sites.ReadingLemmas.{read-ok, then-then, cell-of_sort, step-of, step-leads, IsCome, come-read, come-variable, variable-reads, variable-stands}
+use Rattle.triple_meaning.proofs.sites.AccessLemmas.{cell_checks, access_checks, cell-is, access-is, cell-idle, access-idle, stops-null, stops-dead}
+use Rattle.triple_meaning.proofs.sites.AccessLemmas.{passes-live, stops-read}
+use Rattle.triple_meaning.proofs.sites.ReadingLemmas.{read-ok, then-then, cell-of_sort, step-of, step-leads, IsCome, come-read, come-variable, variable-reads}
+use Rattle.triple_meaning.proofs.sites.ReadingLemmas.{variable-stands}
 
 -- the meaning of a telling, of the same truth
 pub tells-same : (types : List TypeEntry) (vars : List VarEntry) (line : ℕ) (reached : Text) (s : State) (told : Told)
@@ -239,7 +242,8 @@ module _ (types : List TypeEntry) (vars : List VarEntry) (line : ℕ) (reached :
       by next a first t at sees under (one_value.Cell c) stands of_sort = absurd of_sort
       by next a first t at sees under (one_value.Cells cells) stands of_sort = absurd of_sort
       by next a first t at sees under (one_value.Bool b) stands of_sort =
-          let means = truth-means next a a next at t (value_of s.values v) (one_value.Bool b) (here-itself types vars next a first s t at sees) (omega arith) stands
+          let means = truth-means next a a next at t (value_of s.values v) (one_value.Bool b) (here-itself types vars next a first s t at sees)
+          (omega arith) stands
           tt under in (
             (λ h. ap truth_in (means.0 h)),
             (λ h. means.1 (ap (λ k. one_value.Bool k) h)),

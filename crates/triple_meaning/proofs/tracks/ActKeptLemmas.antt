@@ -27,7 +27,8 @@ use Rattle.site_list.specs.Claims.{assertion}
 use Rattle.site_list.specs.Acts.{made_truth, made_cell, evaluated, write_field, write_along, assigned, freed, asserted, act_rule}
 use Rattle.triple_meaning.proofs.tracks.BelowLemmas.{sym-later}
 use Rattle.triple_meaning.proofs.tracks.ValuesLemmas.{truth-defining, slot-defining}
-use Rattle.triple_meaning.proofs.tracks.KeptLemmas.{value-below, IsKept, Keeps, KeepsGot, KeepsTold, keeps-itself, keeps-then, next-later, keeps-made, kept-check, kept-check_cell, by-access, kept-event, kept-value}
+use Rattle.triple_meaning.proofs.tracks.KeptLemmas.{value-below, IsKept, Keeps, KeepsGot, KeepsTold, keeps-itself, keeps-then, next-later, keeps-made}
+use Rattle.triple_meaning.proofs.tracks.KeptLemmas.{kept-check, kept-check_cell, by-access, kept-event, kept-value}
 use Rattle.triple_meaning.proofs.tracks.ReadKeptLemmas.{path-track, read-kept, operand-kept}
 use Rattle.triple_meaning.proofs.tracks.ConditionKeptLemmas.{condition-kept}
 
@@ -70,8 +71,16 @@ module _ (types : List TypeEntry) (vars : List VarEntry) (line : ℕ) where
       let own : State = check line (guard z) cause.Variant (lacks types (sight vars z) f u) cell in
       let kept_own = kept-check types vars line (guard z) cause.Variant (lacks types (sight vars z) f u) cell kept_cell in
       by-access types vars (λ y. Keeps types vars s (happens (event.Write z.guard u f (got.0)) y)) line (guard z) f u z
-      (record { kept = kept-event types vars (event.Write z.guard u f (got.0)) cell kept_cell (one.keeps.kept.guarded, u_below, one.value); longer = one.keeps.longer })
-      (record { kept = kept-event types vars (event.Write z.guard u f (got.0)) own kept_own (one.keeps.kept.guarded, u_below, one.value); longer = one.keeps.longer })
+      (record {
+        kept = kept-event types vars (event.Write z.guard u f (got.0)) cell kept_cell (one.keeps.kept.guarded, u_below, one.value);
+        longer =
+            one.keeps.longer;
+      })
+      (record {
+        kept = kept-event types vars (event.Write z.guard u f (got.0)) own kept_own (one.keeps.kept.guarded, u_below, one.value);
+        longer =
+            one.keeps.longer;
+      })
 
   along-kept : (positive : 0 < track_count types vars) (fields : List FieldId) (f : FieldId) (x : Rhs) (sort : Sort) (got : Got) → RhsFits types vars x sort →
       IsKept types vars (got.1) → IsSymBelow (next_track types vars (got.1)) (got.0) →

@@ -1,5 +1,6 @@
 -- Items, codes and arriving at cuts keep the made tracks defined one after the other.
-use Rattle.std.proofs.Common.{◌≡◌, ℕ, suc, ◌<◌, ◌≤◌, Bool, true, false, cond, List, [], ◌∷◌, length, map, slice_get, All, Option, Some, None, refl, sym, ap, ◌∙◌, subst, arith}
+use Rattle.std.proofs.Common.{◌≡◌, ℕ, suc, ◌<◌, ◌≤◌, Bool, true, false, cond, List, [], ◌∷◌, length, map, slice_get, All, Option, Some, None, refl, sym, ap}
+use Rattle.std.proofs.Common.{◌∙◌, subst, arith}
 use Rattle.std.specs.Option.{option_map_or}
 use Rattle.std.proofs.lemmas.List.Elements.{All-nil, All-cons, All-head, All-tail}
 use Rattle.ws2s_forms.specs.Forms.{track}
@@ -33,13 +34,15 @@ use Rattle.site_list.specs.Conditions.{condition}
 use Rattle.site_list.specs.Parts.{is_part}
 use Rattle.site_list.specs.Cuts.{check_stores, check_claims, with_part, arrived_at_call, arrived}
 use Rattle.site_list.specs.Acts.{act_rule}
-use Rattle.site_list.specs.Codes.{Going, in_order, with_ways, on_way, is_sym, is_merged, Merging, behind, merged, plain_if, item_rule, items, branch, tail_rule, code_rule, code}
+use Rattle.site_list.specs.Codes.{Going, in_order, with_ways, on_way, is_sym, is_merged, Merging, behind, merged, plain_if, item_rule, items, branch, tail_rule}
+use Rattle.site_list.specs.Codes.{code_rule, code}
 use Rattle.site_list.specs.Codes as codes
 use Rattle.triple_meaning.specs.Tracks.Defining.{IsDefining}
 use Rattle.triple_meaning.proofs.tracks.BelowLemmas.{sym-later, guard-later, syms-later, events-later}
 use Rattle.triple_meaning.proofs.tracks.ValuesLemmas.{IsSteady, steady-more, truth-defining, merged-defining}
 use Rattle.triple_meaning.proofs.tracks.PartValueLemmas.{part-defining}
-use Rattle.triple_meaning.proofs.tracks.KeptLemmas.{values-below, IsKept, Keeps, KeepsTold, keeps-itself, keeps-then, next-later, next-define, kept-define, kept-guard, kept-values, guard-steady, both-steady, fails-steady}
+use Rattle.triple_meaning.proofs.tracks.KeptLemmas.{values-below, IsKept, Keeps, KeepsTold, keeps-itself, keeps-then, next-later, next-define, kept-define}
+use Rattle.triple_meaning.proofs.tracks.KeptLemmas.{kept-guard, kept-values, guard-steady, both-steady, fails-steady}
 use Rattle.triple_meaning.proofs.tracks.ConditionKeptLemmas.{condition-kept}
 use Rattle.triple_meaning.proofs.tracks.ActKeptLemmas.{act-kept}
 
@@ -69,7 +72,11 @@ module _ (types : List TypeEntry) (vars : List VarEntry) where
       subst (λ m. IsDefining m other_text) (sym grown) (truth-defining (suc n) (both (guard s) (fails text)) said) in
       let second = kept-define types vars (define first_text s) other_text first.kept one in
       let grown_again = next-define types vars (define first_text s) other_text in
-      record { keeps = keeps-then types vars s (define first_text s) (define other_text (define first_text s)) first second; other = omega (arith, grown, grown_again) }
+      record {
+        keeps = keeps-then types vars s (define first_text s) (define other_text (define first_text s)) first second;
+        other = omega
+            (arith, grown, grown_again);
+      }
 
   -- ---- what stands for variables after both ways
 
@@ -213,7 +220,8 @@ module _ (types : List TypeEntry) (vars : List VarEntry) where
       let go : Going = in_order (map (codes.item types vars) taken) in
       let go_other : Going = in_order (map (codes.item types vars) other) in
       in-front (item.If line c taken other) rest s (plain_if types vars go go_other told) (item-If line c taken other s)
-      (if-kept go go_other (way-kept taken one parts.1) (way-kept other two parts.2) told s (condition-kept types vars line c parts.0 (guard s) s kept)) (later fits.1)
+      (if-kept go go_other (way-kept taken one parts.1) (way-kept other two parts.2) told s (condition-kept types vars line c parts.0 (guard s) s kept))
+      (later fits.1)
 
   pub items-kept : (xs : List Item) → AreKept xs
   items-kept = items-induction AreKept (λ fits s kept. keeps-itself types vars s kept) act-meant if-meant
@@ -224,7 +232,8 @@ module _ (types : List TypeEntry) (vars : List VarEntry) where
   part-kept roots s kept =
       let n : ℕ = next_track types vars s in
       kept-define types vars s (is_part types (sight vars s) (map (value_of s.values) roots) n) kept
-      (part-defining types vars (var_slots vars) n (omega arith) (map (value_of s.values) roots) s.events (values-below n s.values roots kept.values) kept.events)
+      (part-defining types vars (var_slots vars) n (omega arith) (map (value_of s.values) roots) s.events (values-below n s.values roots kept.values)
+      kept.events)
 
   arrived-kept : (cut : Cut) → KeepsOn (arrived types vars cut)
   arrived-kept cut s kept = by cut.handed

@@ -16,7 +16,8 @@ use Rattle.triple_meaning.proofs.tracks.ClearLemmas.{clear-true, clear-false, cl
 use Rattle.triple_meaning.proofs.tracks.SightClearLemmas.{clear-is_same}
 use Rattle.triple_meaning.proofs.tracks.BelowLemmas.{sym-later}
 use Rattle.triple_meaning.proofs.tracks.ValuesLemmas.{IsSteady, steady-more}
-use Rattle.triple_meaning.proofs.tracks.KeptLemmas.{IsKept, KeepsGot, KeepsTold, keeps-itself, keeps-then, next-later, kept-check_cell, both-steady, fails-steady}
+use Rattle.triple_meaning.proofs.tracks.KeptLemmas.{IsKept, KeepsGot, KeepsTold, keeps-itself, keeps-then, next-later, kept-check_cell, both-steady}
+use Rattle.triple_meaning.proofs.tracks.KeptLemmas.{fails-steady}
 use Rattle.triple_meaning.proofs.tracks.ReadKeptLemmas.{path-track, path-kept, path_truth-kept, variant-steady, operand-kept}
 
 module _ (types : List TypeEntry) (vars : List VarEntry) (line : ℕ) where
@@ -29,7 +30,8 @@ module _ (types : List TypeEntry) (vars : List VarEntry) (line : ℕ) where
 
   -- two truths, one after the other
   then-kept : (s : State) (left right : Told) (text : Text) → KeepsTold types vars s left → KeepsTold types vars (left.1) right →
-      (IsSteady (next_track types vars (right.1)) (left.0) → IsSteady (next_track types vars (right.1)) (right.0) → IsSteady (next_track types vars (right.1)) text) →
+      (IsSteady (next_track types vars (right.1)) (left.0) → IsSteady (next_track types vars (right.1)) (right.0) → IsSteady
+      (next_track types vars (right.1)) text) →
       KeepsTold types vars s (text, right.1)
   then-kept s left right text one other join = record {
     keeps = keeps-then types vars s (left.1) (right.1) one.keeps other.keeps;
@@ -110,7 +112,8 @@ module _ (types : List TypeEntry) (vars : List VarEntry) (line : ℕ) where
       let left : Told = told_of u.0 reached s in
       let right : Told = told_of v.0 (both reached (fails (left.0))) (left.1) in
       let one = u.1 fits.0 reached s kept in
-      then-kept s left right (λ next. or ((left.0) next) ((right.0) next)) one (v.1 fits.1 (both reached (fails (left.0))) (left.1) one.keeps.kept) (λ first second next t from less.
+      then-kept s left right (λ next. or ((left.0) next) ((right.0) next)) one (v.1 fits.1 (both reached (fails (left.0))) (left.1) one.keeps.kept)
+      (λ first second next t from less.
       clear-or t ((left.0) next) ((right.0) next) (first next t from less) (second next t from less))
 
   made-kept : (y : Cond-F ((c : Cond) × IsToldKept c)) → IsToldKept (roll-Cond (rolled y))

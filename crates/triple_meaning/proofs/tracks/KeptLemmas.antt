@@ -1,5 +1,6 @@
 -- States of the walk whose made tracks are defined one after the other, and whose guard, values and events use tracks that are there.
-use Rattle.std.proofs.Common.{◌≡◌, ℕ, suc, ◌+◌, ◌≤◌, List, [], ◌∷◌, ◌++◌, length, slice_get, get_or, map, All, Option, Some, None, unwrap_or, refl, subst, arith, length-append}
+use Rattle.std.proofs.Common.{◌≡◌, ℕ, suc, ◌+◌, ◌≤◌, List, [], ◌∷◌, ◌++◌, length, slice_get, get_or, map, All, Option, Some, None, unwrap_or, refl, subst}
+use Rattle.std.proofs.Common.{arith, length-append}
 use Rattle.std.specs.Option.{option_map_or}
 use Rattle.std.proofs.lemmas.List.Elements.{All-set, All-map}
 use Rattle.std.proofs.lemmas.Option.{slice_get_within, get_or_from_slice_get}

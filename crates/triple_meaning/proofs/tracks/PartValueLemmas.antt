@@ -141,7 +141,8 @@ module _ (types : List TypeEntry) (vars : List VarEntry) (slots n : ℕ) (few : 
         let wide : Formula = closes types (whole slots events) values (suc next) next in
         let all = law-all2 next (imp wide (Sub (track n) (track next))) (with_position b n p) p_finite in
         let follows = λ (set : PositionSet) (bounded : IsFiniteSet set).
-        law-imp wide (Sub (track n) (track next)) (replace (with_position b n p) next set) (IsFinite-replace (with_position b n p) next set p_finite bounded) in (
+        law-imp wide (Sub (track n) (track next)) (replace (with_position b n p) next set)
+        (IsFinite-replace (with_position b n p) next set p_finite bounded) in (
           (λ h set is. (on-p set).0 ((follows set is.bounded).0 (all.0 h set is.bounded)
               ((wide-means (with_position b n p) set agrees-p is.bounded).1 (is.rooted, is.closed)))),
           (λ h. all.1 (λ set bounded. (follows set bounded).1 (λ k.

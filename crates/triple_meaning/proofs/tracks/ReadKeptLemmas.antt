@@ -20,18 +20,21 @@ use Rattle.graph_view.specs.Live.{lives}
 use Rattle.graph_view.specs.Fields.{is_true}
 use Rattle.graph_view.specs.After.{IsSymBelow}
 use Rattle.site_list.specs.States.{Text, State, Got, next_track, make, check, sight, value_of}
-use Rattle.site_list.specs.Reading.{lacks, check_cell, check_access, is_read, read, read_along, path_value, operand_value, is_true_of, truth_along, truth_at, path_truth, is_of_variant}
+use Rattle.site_list.specs.Reading.{lacks, check_cell, check_access, is_read, read, read_along, path_value, operand_value, is_true_of, truth_along, truth_at}
+use Rattle.site_list.specs.Reading.{path_truth, is_of_variant}
 use Rattle.triple_meaning.proofs.tracks.ClearLemmas.{above, later, clear-And, clear-ex1}
 use Rattle.triple_meaning.proofs.tracks.SightClearLemmas.{clear-is_in, clear-truth, IsSightBelow, clear-lives, clear-is_true}
 use Rattle.triple_meaning.proofs.tracks.BelowLemmas.{sym-later, events-later, var-track}
 use Rattle.triple_meaning.proofs.tracks.ValuesLemmas.{IsSteady}
 use Rattle.triple_meaning.proofs.tracks.ReadValueLemmas.{read-defining}
-use Rattle.triple_meaning.proofs.tracks.KeptLemmas.{value-below, IsKept, KeepsGot, KeepsTold, keeps-itself, keeps-then, keeps-made, kept-check, kept-check_cell, by-access}
+use Rattle.triple_meaning.proofs.tracks.KeptLemmas.{value-below, IsKept, KeepsGot, KeepsTold, keeps-itself, keeps-then, keeps-made, kept-check, kept-check_cell}
+use Rattle.triple_meaning.proofs.tracks.KeptLemmas.{by-access}
 
 -- a path that fits begins at a variable that is there, which has a track
 pub path-track : (types : List TypeEntry) (vars : List VarEntry) (p : Path) (sort : Sort) → PathFits types vars p sort → 0 < track_count types vars
 path-track types vars p sort fits =
-    let (start, is, along) = and_then-some (λ s. sort_along types s p.fields) (option_and_then (λ (entry : VarEntry). code_sort entry.kind) (var_at vars p.var)) sort fits in
+    let (start, is, along) = and_then-some (λ s. sort_along types s p.fields)
+    (option_and_then (λ (entry : VarEntry). code_sort entry.kind) (var_at vars p.var)) sort fits in
     let (entry, there, kind) = and_then-some (λ (entry : VarEntry). code_sort entry.kind) (var_at vars p.var) start is in
     var-track types vars p.var entry there
 
@@ -75,7 +78,8 @@ module _ (types : List TypeEntry) (vars : List VarEntry) (line : ℕ) (reached :
         let one = read-kept f got kept under in
         let rest = along-kept fields (read types vars line reached f got) one.keeps.kept one.value in
         record {
-          keeps = keeps-then types vars (got.1) ((read types vars line reached f got).1) ((read_along types vars line reached (f ∷ fields) got).1) one.keeps rest.keeps;
+          keeps = keeps-then types vars (got.1) ((read types vars line reached f got).1) ((read_along types vars line reached (f ∷ fields) got).1)
+              one.keeps rest.keeps;
           value = rest.value;
         }
 

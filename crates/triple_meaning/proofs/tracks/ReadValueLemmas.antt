@@ -102,7 +102,8 @@ module _ (types : List TypeEntry) (vars : List VarEntry) (slots n : ℕ) (few : 
               let named = (WSat-And (is_in (suc (suc next)) (suc next) u) (names types (whole slots events) (suc (suc next)) f (suc next) next) c).0 holds in
               let only = IsOnly-still (with_position b next p) (suc next) next w p (omega arith) (IsOnly-bound b next p) in
               let so : length p < depth =
-              names-short types vars slots n few some b depth short c agrees (suc (suc next)) next p (omega (arith, less)) (omega arith) only f (suc next) events past
+              names-short types vars slots n few some b depth short c agrees (suc (suc next)) next p (omega (arith, less)) (omega arith) only f (suc next)
+              events past
               named.1 in
               let k : ⊥ = omega (arith, so, deep) in k),
         )

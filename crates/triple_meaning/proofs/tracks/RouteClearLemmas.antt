@@ -22,11 +22,15 @@ use Rattle.graph_view.specs.Sights.{Sight, at_first}
 use Rattle.graph_view.specs.Syms.{is_in}
 use Rattle.graph_view.specs.Live.{lives, lives_in, has, is_live}
 use Rattle.graph_view.specs.Fields.{is_true, is_bool, is_data, fields_named}
-use Rattle.graph_view.specs.Routes.{Naming, Joining, names_by_data, edge, down, stays_at_root, stays_at_leaf, has_truth, stays_at_truth, is_left, star, walk_rules, walk_by, data_walk, destination, names_in, names}
+use Rattle.graph_view.specs.Routes.{Naming, Joining, names_by_data, edge, down, stays_at_root, stays_at_leaf, has_truth, stays_at_truth, is_left, star}
+use Rattle.graph_view.specs.Routes.{walk_rules, walk_by, data_walk, destination, names_in, names}
 use Rattle.graph_view.specs.Cuts.{has_value, closes}
 use Rattle.graph_view.specs.After.{IsSymBelow}
-use Rattle.triple_meaning.proofs.tracks.ClearLemmas.{above, later, IsClear, AreClear, clear-Sub, clear-And, clear-Not, clear-false, clear-and_list, clear-or_list, clear-or, clear-imp, clear-map, clear-append, clear-ex1, clear-all2, clear-equal}
-use Rattle.triple_meaning.proofs.tracks.SightClearLemmas.{clear-option, clear-is_in, IsSightBelow, first-below, clear-lives, clear-lives_in, clear-has, clear-is_live, clear-after, clear-is_true, clear-data_names, clear-by_data, clear-edge, IsClearJoining, clear-is_left, clear-has_value}
+use Rattle.triple_meaning.proofs.tracks.ClearLemmas.{above, later, IsClear, AreClear, clear-Sub, clear-And, clear-Not, clear-false, clear-and_list}
+use Rattle.triple_meaning.proofs.tracks.ClearLemmas.{clear-or_list, clear-or, clear-imp, clear-map, clear-append, clear-ex1, clear-all2, clear-equal}
+use Rattle.triple_meaning.proofs.tracks.SightClearLemmas.{clear-option, clear-is_in, IsSightBelow, first-below, clear-lives, clear-lives_in, clear-has}
+use Rattle.triple_meaning.proofs.tracks.SightClearLemmas.{clear-is_live, clear-after, clear-is_true, clear-data_names, clear-by_data, clear-edge}
+use Rattle.triple_meaning.proofs.tracks.SightClearLemmas.{IsClearJoining, clear-is_left, clear-has_value}
 
 module _ (types : List TypeEntry) (vars : List VarEntry) (t : ℕ) (few : track_count types vars ≤ t) (some : 0 < t) where
   module _ (sight : Sight) (is : IsSightBelow t sight) where
@@ -62,7 +66,11 @@ module _ (types : List TypeEntry) (vars : List VarEntry) (t : ℕ) (few : track_
             live-clear next a less no_a,
             (
               clear-equal t a b no_a no_b,
-              (clear-Not t (ex1 next above_it) (clear-ex1 t next above_it less (edge-clear (suc next) next a (later t next less) (above t next less) no_a)), tt),
+              (
+                clear-Not t (ex1 next above_it) (clear-ex1 t next above_it less
+                    (edge-clear (suc next) next a (later t next less) (above t next less) no_a)),
+                tt,
+              ),
             ),
           )
 
@@ -73,7 +81,11 @@ module _ (types : List TypeEntry) (vars : List VarEntry) (t : ℕ) (few : track_
             live-clear next a less no_a,
             (
               clear-equal t a b no_a no_b,
-              (clear-Not t (ex1 next below_it) (clear-ex1 t next below_it less (edge-clear (suc next) a next (later t next less) no_a (above t next less))), tt),
+              (
+                clear-Not t (ex1 next below_it) (clear-ex1 t next below_it less
+                    (edge-clear (suc next) a next (later t next less) no_a (above t next less))),
+                tt,
+              ),
             ),
           )
 
@@ -140,7 +152,8 @@ module _ (types : List TypeEntry) (vars : List VarEntry) (t : ℕ) (few : track_
         of_Then = λ first second one two. clear-by (Then first second) (Route-F.Then first second) (rolls-Then first second) (λ next a b less no_a no_b.
             let way : Formula = And (formula first (suc next) a next) (formula second (suc next) next b) in
             clear-ex1 t next way less
-            (clear-And t (formula first (suc next) a next) (formula second (suc next) next b) (one (suc next) a next (later t next less) no_a (above t next less))
+            (clear-And t (formula first (suc next) a next) (formula second (suc next) next b)
+            (one (suc next) a next (later t next less) no_a (above t next less))
             (two (suc next) next b (later t next less) (above t next less) no_b)));
         of_Or = λ first second one two. clear-by (Or first second) (Route-F.Or first second) (rolls-Or first second) (λ next a b less no_a no_b.
             clear-or t (formula first next a b) (formula second next a b) (one next a b less no_a no_b) (two next a b less no_a no_b));

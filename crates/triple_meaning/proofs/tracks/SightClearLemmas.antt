@@ -26,7 +26,9 @@ use Rattle.graph_view.specs.Fields.{is_field, is_data, after, is_true, first_chi
 use Rattle.graph_view.specs.Routes.{names_by_data, data_names_in, edge, is_left}
 use Rattle.graph_view.specs.Cuts.{has_value}
 use Rattle.graph_view.specs.After.{IsSymBelow, IsGuardBelow, AreEventsBelow}
-use Rattle.triple_meaning.proofs.tracks.ClearLemmas.{above, below, later, IsClear, AreClear, clear-Sub, clear-And, clear-Not, clear-false, clear-true, clear-and_list, clear-or_list, clear-or, clear-map, clear-ex1, clear-empty, clear-equal, clear-flag, clear-go, clear-slot}
+use Rattle.triple_meaning.proofs.tracks.ClearLemmas.{above, below, later, IsClear, AreClear, clear-Sub, clear-And, clear-Not, clear-false, clear-true}
+use Rattle.triple_meaning.proofs.tracks.ClearLemmas.{clear-and_list, clear-or_list, clear-or, clear-map, clear-ex1, clear-empty, clear-equal, clear-flag}
+use Rattle.triple_meaning.proofs.tracks.ClearLemmas.{clear-go, clear-slot}
 
 -- a choice between two formulas
 pub clear-cond : (t : ℕ) (b : Bool) (f g : Formula) → IsClear t f → IsClear t g → IsClear t (cond b f g)
@@ -119,7 +121,8 @@ module _ (types : List TypeEntry) (vars : List VarEntry) (t : ℕ) (few : track_
   pub clear-lives_in : (sight : Sight) (next : ℕ) (ty : TypeId) (a : ℕ) → IsSightBelow t sight → t < next → a ≢ t →
       IsClear t (lives_in types sight next ty a)
   clear-lives_in sight next ty a is less no_a =
-      clear-option t (λ v. lives types sight next v a) (or_list next (map (λ v. lives types sight next v a) (variants_of types ty))) (unnamed_of types ty) (λ v. clear-lives sight next v a is less no_a)
+      clear-option t (λ v. lives types sight next v a) (or_list next (map (λ v. lives types sight next v a) (variants_of types ty))) (unnamed_of types ty)
+      (λ v. clear-lives sight next v a is less no_a)
       (clear-or_list t next (map (λ v. lives types sight next v a) (variants_of types ty)) less
       (clear-map t (λ v. lives types sight next v a) (λ v. clear-lives sight next v a is less no_a) (variants_of types ty)))
 

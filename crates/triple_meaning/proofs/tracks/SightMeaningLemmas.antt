@@ -1,5 +1,6 @@
 -- What is said of live cells and of data fields, by the sets on the tracks in use, whichever these are: no store has to be seen.
-use Rattle.std.proofs.Common.{◌≡◌, ◌↔◌, ◌⊎◌, ℕ, ◌+◌, ◌<◌, ◌≤◌, Bool, true, false, cond, IsTrue, List, [], ◌∷◌, map, Contains, Option, Some, None, refl, subst, arith}
+use Rattle.std.proofs.Common.{◌≡◌, ◌↔◌, ◌⊎◌, ℕ, ◌+◌, ◌<◌, ◌≤◌, Bool, true, false, cond, IsTrue, List, [], ◌∷◌, map, Contains, Option, Some, None, refl, subst}
+use Rattle.std.proofs.Common.{arith}
 use Rattle.std.specs.Option.{option_map_or}
 use Rattle.std.specs.Prelude.{unwrap_or}
 use Rattle.gta_theory.specs.Assignments.{Position, Assignment, IsOnly}
@@ -190,7 +191,8 @@ module _ (types : List TypeEntry) (slots : ℕ) (b : Assignment) where
     has-means : (f : FieldId) (events : List Event) → AreEventsBelow n events →
         MeansHere n b (λ next x. has types (whole slots events) next f x) (HasAt f events)
     has-means f events under c next x p agrees room less only =
-        sat-option (λ v. lives types (whole slots events) next v x) (lives_in types (whole slots events) next f.ty x) (owner types f) c (λ v. LivesAt v events p)
+        sat-option (λ v. lives types (whole slots events) next v x) (lives_in types (whole slots events) next f.ty x) (owner types f) c
+        (λ v. LivesAt v events p)
         (OfTypeAt f.ty events p) (λ v. live-means v events under c next x p agrees room less only)
         (of_type-means f.ty events under c next x p agrees room less only)
 
@@ -210,7 +212,8 @@ module _ (types : List TypeEntry) (slots : ℕ) (b : Assignment) where
 
     names-means : (f : FieldId) (target : TypeId) (all events : List Event) → AreEventsBelow n events →
         MeansPairs n b (λ next x y. after next f x (is_in next y) (first_child types (whole slots all) next f target x y) events) (NamesAt f target events)
-    names-means f target all [] under c next x y p q agrees room less_x less_y only_p only_q = first-means f target all c next x y p q agrees room less_x less_y only_p only_q
+    names-means f target all [] under c next x y p q agrees room less_x less_y only_p only_q = first-means f target all c next x y p q agrees room less_x
+        less_y only_p only_q
     names-means f target all (New g k v ∷ earlier) under c next x y p q agrees room less_x less_y only_p only_q =
         names-means f target all earlier under.1 c next x y p q agrees room less_x less_y only_p only_q
     names-means f target all (Free g u ∷ earlier) under c next x y p q agrees room less_x less_y only_p only_q =

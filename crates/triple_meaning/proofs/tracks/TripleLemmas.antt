@@ -35,7 +35,8 @@ module _ (types : List TypeEntry) (vars : List VarEntry) where
     made = tt;
     guarded = tt;
     values = All-map (IsSymBelow (next_track types vars (at_start types vars))) (λ v. At (track_or_first (var_track types vars v))) (vars_in vars)
-        (All-from_contains (λ v. IsSymBelow (next_track types vars (at_start types vars)) (At (track_or_first (var_track types vars v)))) (vars_in vars) (λ v listed.
+        (All-from_contains (λ v. IsSymBelow (next_track types vars (at_start types vars)) (At (track_or_first (var_track types vars v)))) (vars_in vars)
+        (λ v listed.
         own-below (next_track types vars (at_start types vars)) (omega arith) v (named-inside var_id (length vars) v listed)));
     events = tt;
   }

@@ -21,7 +21,8 @@ use Rattle.graph_meaning.proofs.live.AgreeingLemmas.{IsOnly-bound}
 use Rattle.site_list.specs.States.{Text, is_truth_of}
 use Rattle.site_list.specs.Codes.{is_merged}
 use Rattle.triple_meaning.specs.Tracks.Defining.{IsDefining}
-use Rattle.triple_meaning.proofs.tracks.ClearLemmas.{below, IsClear, clear-unfree, clear-Root, clear-And, clear-Not, clear-or, clear-empty, clear-flag, clear-slot}
+use Rattle.triple_meaning.proofs.tracks.ClearLemmas.{below, IsClear, clear-unfree, clear-Root, clear-And, clear-Not, clear-or, clear-empty, clear-flag}
+use Rattle.triple_meaning.proofs.tracks.ClearLemmas.{clear-slot}
 use Rattle.triple_meaning.proofs.tracks.SightClearLemmas.{clear-is_same}
 use Rattle.triple_meaning.proofs.tracks.BelowLemmas.{sym-later}
 
@@ -116,7 +117,8 @@ module _ (h m : ℕ) (u w : Sym) (before : h < m) (one : IsSymBelow m u) (other 
       let past : m < t = omega (arith, from) in
       let flagged = clear-flag t next h under (below t h (omega (arith, from, before))) in
       clear-or t (And (flag next h) (is_same next (At (track m)) u)) (And (Not (flag next h)) (is_same next (At (track m)) w))
-      (clear-And t (flag next h) (is_same next (At (track m)) u) flagged (clear-is_same t next (At (track m)) u under past (sym-later m t u (omega (arith, past)) one)))
+      (clear-And t (flag next h) (is_same next (At (track m)) u) flagged
+      (clear-is_same t next (At (track m)) u under past (sym-later m t u (omega (arith, past)) one)))
       (clear-And t (Not (flag next h)) (is_same next (At (track m)) w) (clear-Not t (flag next h) flagged)
       (clear-is_same t next (At (track m)) w under past (sym-later m t w (omega (arith, past)) other)))
 

@@ -13,7 +13,8 @@ loop-index-init c =
 
 pub loop-index-preserved : goal.loop-index-preserved
 loop-index-preserved c =
-    Gathers-next (TrackIn c.args.l.now.types) c.loop-index.index [] c.loop-index.tracks c.push_tracks.new.tracks c.loop-index.invariant c.in_ok-push_tracks.ensures
+    Gathers-next (TrackIn c.args.l.now.types) c.loop-index.index [] c.loop-index.tracks c.push_tracks.new.tracks c.loop-index.invariant
+    c.in_ok-push_tracks.ensures
 
 pub returns : goal.returns
 returns c =
@@ -21,4 +22,10 @@ returns c =
     let In = TrackIn types in
     let n = c.loop-index.index in
     HasAll-alike c.loop-index.tracks (Before In n) (IsVariantTrack types) (HasAll-gathered c.loop-index.tracks (Before In n) c.loop-index.invariant)
-    (tracks-of_all types n (omega (arith, c.loop-index-test.false, c.types-index-end.ensures.value, ap (λ (ts : List TypeEntry). length ts) c.types.ensures.value)))
+    (tracks-of_all types n (omega (
+      arith,
+      c.loop-index-test.false,
+      c.types-index-end.ensures.value,
+      ap (λ (ts : List TypeEntry). length ts)
+          c.types.ensures.value,
+    )))

@@ -37,7 +37,8 @@ returns-in-Err-Limit-clause-ok c =
     let xs : List AutoView = c.args.a.now ∷ [] in
     let made = c.in-Err-Limit.ensures in
     let again = c.minimise-in-Err-Limit.ensures in
-    let left = left_beside g was c.minimise.new.shelf c.make_room.new.shelf xs kept c.make_room.new.self c.requires made.shelf made.kept made.tables made.same_limit
+    let left = left_beside g was c.minimise.new.shelf c.make_room.new.shelf xs kept c.make_room.new.self c.requires made.shelf made.kept made.tables
+    made.same_limit
     (c.make_room.ensures.passes g) in
     built-ok g was c.make_room.new.shelf c.minimise-in-Err-Limit.new.shelf xs kept c.make_room.new.self left c.requires again.shelf again.kept
     again.same_limit c.minimise-in-Err-Limit.result again.auto again.table
@@ -62,9 +63,11 @@ returns-in-Err-Limit-clause-err c =
     let xs : List AutoView = c.args.a.now ∷ [] in
     let made = c.in-Err-Limit.ensures in
     let again = c.minimise-in-Err-Limit.ensures in
-    let left = left_passes g was c.minimise.new.shelf c.make_room.new.shelf xs kept c.make_room.new.self c.requires made.shelf made.kept made.tables made.same_limit
+    let left = left_passes g was c.minimise.new.shelf c.make_room.new.shelf xs kept c.make_room.new.self c.requires made.shelf made.kept made.tables
+    made.same_limit
     (c.make_room.ensures.passes g) in
-    let here = left_held g was c.minimise.new.shelf c.make_room.new.shelf xs kept c.make_room.new.self c.requires made.shelf made.kept made.tables made.same_limit
+    let here = left_held g was c.minimise.new.shelf c.make_room.new.shelf xs kept c.make_room.new.self c.requires made.shelf made.kept made.tables
+    made.same_limit
     (c.make_room.ensures.passes g) in
     built-err g was c.make_room.new.shelf c.minimise-in-Err-Limit.new.shelf kept c.make_room.new.self left here.holds.is_shelf again.shelf again.kept
     again.same_limit c.minimise-in-Err-Limit.result again.tables

@@ -51,7 +51,8 @@ returns-in-Err-Limit-clause-ok c =
     let xs : List AutoView = c.args.a.now ∷ c.args.b.now ∷ [] in
     let made = c.in-Err-Limit.ensures in
     let again = c.product-in-Err-Limit.ensures in
-    let left = left_beside g was c.product.new.shelf c.make_room.new.shelf xs kept c.make_room.new.self c.requires made.shelf made.kept made.tables made.same_limit
+    let left = left_beside g was c.product.new.shelf c.make_room.new.shelf xs kept c.make_room.new.self c.requires made.shelf made.kept made.tables
+    made.same_limit
     (c.make_room.ensures.passes g) in
     built-ok g was c.make_room.new.shelf c.product-in-Err-Limit.new.shelf xs kept c.make_room.new.self left c.requires again.shelf again.kept
     again.same_limit c.product-in-Err-Limit.result again.auto again.table
@@ -65,7 +66,8 @@ returns-in-Err-Limit-clause-product c =
     let made = c.in-Err-Limit.ensures in
     let again = c.product-in-Err-Limit.ensures in
     answer-product g was c.product.new.shelf c.make_room.new.shelf xs kept c.make_room.new.self c.requires made.shelf made.kept made.tables made.same_limit
-    (c.make_room.ensures.passes g) c.product-in-Err-Limit.new.shelf c.args.a.now c.args.b.now (0, omega arith, refl) (1, omega arith, refl) c.product-in-Err-Limit.result again.product
+    (c.make_room.ensures.passes g) c.product-in-Err-Limit.new.shelf c.args.a.now c.args.b.now (0, omega arith, refl) (1, omega arith, refl)
+    c.product-in-Err-Limit.result again.product
 
 pub returns-in-Err-Limit-clause-err : goal.returns-in-Err-Limit-clause-err
 returns-in-Err-Limit-clause-err c =
@@ -75,9 +77,11 @@ returns-in-Err-Limit-clause-err c =
     let xs : List AutoView = c.args.a.now ∷ c.args.b.now ∷ [] in
     let made = c.in-Err-Limit.ensures in
     let again = c.product-in-Err-Limit.ensures in
-    let left = left_passes g was c.product.new.shelf c.make_room.new.shelf xs kept c.make_room.new.self c.requires made.shelf made.kept made.tables made.same_limit
+    let left = left_passes g was c.product.new.shelf c.make_room.new.shelf xs kept c.make_room.new.self c.requires made.shelf made.kept made.tables
+    made.same_limit
     (c.make_room.ensures.passes g) in
-    let here = left_held g was c.product.new.shelf c.make_room.new.shelf xs kept c.make_room.new.self c.requires made.shelf made.kept made.tables made.same_limit
+    let here = left_held g was c.product.new.shelf c.make_room.new.shelf xs kept c.make_room.new.self c.requires made.shelf made.kept made.tables
+    made.same_limit
     (c.make_room.ensures.passes g) in
     built-err g was c.make_room.new.shelf c.product-in-Err-Limit.new.shelf kept c.make_room.new.self left here.holds.is_shelf again.shelf again.kept
     again.same_limit c.product-in-Err-Limit.result again.tables

@@ -6,7 +6,8 @@ use Rattle.gta_core.specs.Auto.{states_of, guide_of}
 use Rattle.gta_merge.specs.declared.lines.Side.TheVariants.{Left, Right}
 use Rattle.gta_merge.specs.Lines.{root_beside}
 use Rattle.gta_merge.specs.Classes.{AreFirsts, HaveLikeRoots, AreToldApart, AreClassed}
-use Rattle.gta_merge.proofs.PartLemmas.{lefts-are, rights-are, many-rows, many-columns, like-rows, like-columns, firsts-known, firsts-tell, ones-known, ones-tell}
+use Rattle.gta_merge.proofs.PartLemmas.{lefts-are, rights-are, many-rows, many-columns, like-rows, like-columns, firsts-known, firsts-tell, ones-known}
+use Rattle.gta_merge.proofs.PartLemmas.{ones-tell}
 use Rattle.gta_merge.proofs.merged.classes_in.Goals as goal
 
 pub firsts-requires : goal.firsts-requires

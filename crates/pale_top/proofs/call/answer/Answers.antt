@@ -54,7 +54,8 @@ returns-in-Err-TooLong-clause-begins g c =
     let after = g.K.Sink.written c.say.new.sink in
     let many = c.in-Err-TooLong.ensures.too_long (search rules) in
     let text = long_text most_bytes left many.more in
-    line_begins (Output c.args.settings) left before after text.0 too_long_line Text text.1 (too_long_output c.args.settings text.0 c.requires.reads text.2) c.say.result
+    line_begins (Output c.args.settings) left before after text.0 too_long_line Text text.1
+    (too_long_output c.args.settings text.0 c.requires.reads text.2) c.say.result
     c.ended-in-Err-TooLong.result c.ended-in-Err-TooLong.ensures
     (λ cut. cut) c.say.ensures.ok c.say.ensures.err
 

@@ -16,7 +16,8 @@ returns-in_err-totals-clause-err g c =
     let program = c.args.whole.now.typed in
     let triples = c.args.whole.now.triples in
     let ways = c.in_ok-ways.ways.items in
-    on_err c.from_residual-in_err-totals.result (before_totals limit program triples c.requires.program c.requires.triples c.requires.functional a b ways c.in_ok-ways.ensures.ok)
+    on_err c.from_residual-in_err-totals.result
+    (before_totals limit program triples c.requires.program c.requires.triples c.requires.functional a b ways c.in_ok-ways.ensures.ok)
 
 pub returns-in_err-write_all-clause-err : goal.returns-in_err-write_all-clause-err
 returns-in_err-write_all-clause-err g c =

@@ -23,6 +23,7 @@ stands_in_first-returns-else-found-clause-found t c =
 
 pub stands_in_first-returns-else-found-clause-less : goal.stands_in_first-returns-else-found-clause-less
 stands_in_first-returns-else-found-clause-less t c =
-    If-left-lighter c.args.item.now c.in-If.field-0 c.in-If.field-1 c.in-If.taken c.in-If.other c.as_slice.result.now c.as_slice-in-If.result.now c.args.more.now
+    If-left-lighter c.args.item.now c.in-If.field-0 c.in-If.field-1 c.in-If.taken c.in-If.other c.as_slice.result.now c.as_slice-in-If.result.now
+    c.args.more.now
     c.in-If.is c.as_slice.ensures c.as_slice-in-If.ensures c.in_ok-found-in-If.found c.in_ok-found-in-If.left.now c.in_ok-found-in-If.ensures.found
     c.in_ok-found-in-If.ensures.less c.stands_in_simpler-in-If.result c.stands_in_simpler-in-If.ensures.less

@@ -14,7 +14,8 @@ unreachable-requires c =
     let site = c.args.found.now.site in
     let (place, there) = present (sites_of c.args.l.now.types c.args.t.now) site (c.requires.lightest).lightest.inside in
     let none : slice_get (sites_of c.args.l.now.types c.args.t.now) site ≡ None =
-    ap (λ (places : List Site). slice_get places site) (sym (c.as_slice.ensures ∙ c.in_ok-places.ensures)) ∙ sym c.at.ensures ∙ ap option_copied c.in_default.is in
+    ap (λ (places : List Site). slice_get places site) (sym (c.as_slice.ensures ∙ c.in_ok-places.ensures)) ∙ sym c.at.ensures ∙ ap option_copied
+    c.in_default.is in
     let both : Some place ≡ None = sym there ∙ none in
     absurd (cc)
 

@@ -45,7 +45,8 @@ returns-in-Ok c =
     let a = c.args.activation in
     let call = c.args.call.now in
     let cut = call_cut program.procs a.vars.now c.args.place.line call in
-    let sets = subst (λ (x : Cut). SetsAs program.types a.vars.now (settings a.vars.now (is_awaited call) x.line) x c.args.store (Ok c.in-Ok.after)) c.in_ok-cut.ensures
+    let sets = subst (λ (x : Cut). SetsAs program.types a.vars.now (settings a.vars.now (is_awaited call) x.line) x c.args.store (Ok c.in-Ok.after))
+    c.in_ok-cut.ensures
     (subst (SetsAs program.types a.vars.now (settings a.vars.now (is_awaited call) (c.in_ok-cut.cut).line) c.in_ok-cut.cut c.args.store) c.in-Ok.is
     c.in_ok-arrived.ensures) in (
       sets.0,
@@ -60,10 +61,12 @@ returns c =
     let a = c.args.activation in
     let call = c.args.call.now in
     let cut = call_cut program.procs a.vars.now c.args.place.line call in
-    let sets = subst (λ (x : Cut). SetsAs program.types a.vars.now (settings a.vars.now (is_awaited call) x.line) x c.args.store (Err c.in-Err.fault)) c.in_ok-cut.ensures
+    let sets = subst (λ (x : Cut). SetsAs program.types a.vars.now (settings a.vars.now (is_awaited call) x.line) x c.args.store (Err c.in-Err.fault))
+    c.in_ok-cut.ensures
     (subst (SetsAs program.types a.vars.now (settings a.vars.now (is_awaited call) (c.in_ok-cut.cut).line) c.in_ok-cut.cut c.args.store) c.in-Err.is
     c.in_ok-arrived.ensures) in (
       sets.0,
       sets.1,
-      arrived_fault program.types a.vars.now sets.0 cut (λ t after. Begins program call (frame_of a t) (all_waiting c.args.waiting.now) after) c.in-Err.fault sets.2,
+      arrived_fault program.types a.vars.now sets.0 cut (λ t after. Begins program call (frame_of a t) (all_waiting c.args.waiting.now) after)
+          c.in-Err.fault sets.2,
     )

@@ -8,5 +8,6 @@ returns-then-truth c = on_ok_weaker c.push.result (λ put. block_first c.args.tr
     (ap (λ (b : Bool). if b then c.args.yes.now else c.args.no.now) (sym c.if-truth.true))) c.push.ensures.ok
 
 pub returns-else-truth : goal.returns-else-truth
-returns-else-truth c = on_ok_weaker c.push-else-truth.result (λ put. block_first c.args.truth c.args.yes c.args.no c.args.no c.args.left.now c.push-else-truth.new.self put
+returns-else-truth c = on_ok_weaker c.push-else-truth.result
+    (λ put. block_first c.args.truth c.args.yes c.args.no c.args.no c.args.left.now c.push-else-truth.new.self put
     (ap (λ (b : Bool). if b then c.args.yes.now else c.args.no.now) (sym c.if-truth.false))) c.push-else-truth.ensures.ok

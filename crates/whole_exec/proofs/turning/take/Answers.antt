@@ -24,7 +24,8 @@ returns-in-Some c =
     let xs = left_of (c.args.activation).left in
     let left = left_of c.next_statement.new.left in
     let skips = subst (λ (o : Option Next). Skips xs (front o left)) c.in-Some.is c.in_ok-found.ensures.same in
-    IfOk-weaker c.take_next.result _ _ (λ end goes. takes_by c.args.program.now (entry_of c.args.activation) (all_waiting c.args.waiting.now) c.args.store (form_of c.in-Some.found) xs left
+    IfOk-weaker c.take_next.result _ _ (λ end goes. takes_by c.args.program.now (entry_of c.args.activation) (all_waiting c.args.waiting.now) c.args.store
+    (form_of c.in-Some.found) xs left
     (turn_of (all_waiting c.take_next.new.waiting) end) skips goes) c.take_next.ensures
 
 pub returns-in-None : goal.returns-in-None
@@ -33,5 +34,6 @@ returns-in-None c =
     let left = left_of c.next_statement.new.left in
     let waiting = all_waiting c.args.waiting.now in
     let skips = subst (λ (o : Option Next). Skips xs (front o left)) c.in-None.is c.in_ok-found.ensures.same in
-    IfOk-weaker c.take_exit.result _ _ (λ end exits. takes_exit c.args.program.now (entry_of c.args.activation) waiting c.args.store xs left (turn_of waiting end) skips
+    IfOk-weaker c.take_exit.result _ _ (λ end exits. takes_exit c.args.program.now (entry_of c.args.activation) waiting c.args.store xs left
+    (turn_of waiting end) skips
     (c.in_ok-found.ensures.all c.in-None.is) (exits waiting)) c.take_exit.ensures

@@ -12,7 +12,8 @@ take_act-requires-clause-act c =
     fits
 
 pub returns-in-Do : goal.returns-in-Do
-returns-in-Do c = by_form c.args.program.now c.args.activation c.args.store c.args.found (next.Do c.in-Do.line c.in-Do.act) (all_waiting c.args.waiting.now) c.take_act.result
+returns-in-Do c = by_form c.args.program.now c.args.activation c.args.store c.args.found (next.Do c.in-Do.line c.in-Do.act)
+    (all_waiting c.args.waiting.now) c.take_act.result
     c.in-Do.is c.take_act.ensures
 
 pub take_if-requires-clause-cond : goal.take_if-requires-clause-cond
@@ -21,7 +22,8 @@ take_if-requires-clause-cond c =
     fits.0
 
 pub returns-in-If : goal.returns-in-If
-returns-in-If c = by_form c.args.program.now c.args.activation c.args.store c.args.found (next.If c.in-If.line c.in-If.cond c.in-If.yes c.in-If.no) (all_waiting c.args.waiting.now) c.take_if.result
+returns-in-If c = by_form c.args.program.now c.args.activation c.args.store c.args.found (next.If c.in-If.line c.in-If.cond c.in-If.yes c.in-If.no)
+    (all_waiting c.args.waiting.now) c.take_if.result
     c.in-If.is c.take_if.ensures
 
 pub take_while-requires-clause-invariant : goal.take_while-requires-clause-invariant
@@ -30,7 +32,8 @@ take_while-requires-clause-invariant c =
     fits.1
 
 pub returns-in-While : goal.returns-in-While
-returns-in-While c = by_form c.args.program.now c.args.activation c.args.store c.args.found (next.While c.in-While.met) (all_waiting c.args.waiting.now) c.take_while.result
+returns-in-While c = by_form c.args.program.now c.args.activation c.args.store c.args.found (next.While c.in-While.met) (all_waiting c.args.waiting.now)
+    c.take_while.result
     c.in-While.is c.take_while.ensures
 
 pub take_behind-requires-clause-cond : goal.take_behind-requires-clause-cond
@@ -39,7 +42,8 @@ take_behind-requires-clause-cond c =
     fits.0
 
 pub returns-in-Behind : goal.returns-in-Behind
-returns-in-Behind c = by_form c.args.program.now c.args.activation c.args.store c.args.found (next.Behind c.in-Behind.behind) (all_waiting c.args.waiting.now) c.take_behind.result
+returns-in-Behind c = by_form c.args.program.now c.args.activation c.args.store c.args.found (next.Behind c.in-Behind.behind)
+    (all_waiting c.args.waiting.now) c.take_behind.result
     c.in-Behind.is c.take_behind.ensures
 
 pub take_split-requires-clause-assertion : goal.take_split-requires-clause-assertion
@@ -48,7 +52,8 @@ take_split-requires-clause-assertion c =
     fits
 
 pub returns-in-Split : goal.returns-in-Split
-returns-in-Split c = by_form c.args.program.now c.args.activation c.args.store c.args.found (next.Split c.in-Split.place c.in-Split.assertion) (all_waiting c.args.waiting.now) c.take_split.result
+returns-in-Split c = by_form c.args.program.now c.args.activation c.args.store c.args.found (next.Split c.in-Split.place c.in-Split.assertion)
+    (all_waiting c.args.waiting.now) c.take_split.result
     c.in-Split.is c.take_split.ensures
 
 pub take_call-requires-clause-call : goal.take_call-requires-clause-call

@@ -32,7 +32,9 @@ returns-in-Ok c = λ waiting.
     (subst (λ (ts : List TypeEntry). ArrivesAs ts vars c.in_ok-cut.cut c.args.store (Ok c.in-Ok.after)) c.types.ensures
     (subst (ArrivesAs c.types.result.now vars c.in_ok-cut.cut c.args.store) c.in-Ok.is c.in_ok-after.ensures)) in
     arrived_on types vars c.args.store cut
-    (λ t after. after ≡ goes (on_with (entry_of c.args.activation) waiting (behind_cut (c.args.met).place (c.args.met).test.now (c.args.met).invariant.now (c.args.met).body.now ∷ left_of (c.args.activation).left) t)) c.in-Ok.after _ arrives
+    (λ t after. after ≡ goes (on_with (entry_of c.args.activation) waiting
+    (behind_cut (c.args.met).place (c.args.met).test.now (c.args.met).invariant.now (c.args.met).body.now ∷ left_of (c.args.activation).left) t))
+    c.in-Ok.after _ arrives
     (ap (λ (l : List Stmt). goes (on_with (entry_of c.args.activation) waiting l c.in-Ok.after)) (ap left_of c.in_ok-push-in-Ok.ensures.ok))
 
 pub returns : goal.returns
@@ -44,4 +46,6 @@ returns c = λ waiting.
     (subst (λ (ts : List TypeEntry). ArrivesAs ts vars c.in_ok-cut.cut c.args.store (Err c.in-Err.fault)) c.types.ensures
     (subst (ArrivesAs c.types.result.now vars c.in_ok-cut.cut c.args.store) c.in-Err.is c.in_ok-after.ensures)) in
     arrived_fault types vars c.args.store cut
-    (λ t after. after ≡ goes (on_with (entry_of c.args.activation) waiting (behind_cut (c.args.met).place (c.args.met).test.now (c.args.met).invariant.now (c.args.met).body.now ∷ left_of (c.args.activation).left) t)) c.in-Err.fault arrives
+    (λ t after. after ≡ goes (on_with (entry_of c.args.activation) waiting
+    (behind_cut (c.args.met).place (c.args.met).test.now (c.args.met).invariant.now (c.args.met).body.now ∷ left_of (c.args.activation).left) t))
+    c.in-Err.fault arrives

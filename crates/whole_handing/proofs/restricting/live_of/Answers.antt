@@ -33,4 +33,5 @@ loop-cell-preserved c =
 
 pub returns : goal.returns
 returns c = c.loop-cell.invariant
-    ∙ ap (filter (λ (d : CellId). is_some (cell_of c.args.store.now d))) (take_all c.loop-cell.cell-index c.args.cells.now (omega (arith, c.loop-cell-test.false)))
+    ∙ ap (filter (λ (d : CellId). is_some (cell_of c.args.store.now d)))
+    (take_all c.loop-cell.cell-index c.args.cells.now (omega (arith, c.loop-cell-test.false)))

@@ -6,4 +6,5 @@ pub loop-index-init : goal.loop-index-init
 loop-index-init c = sym (append-nil c.args.variants.now.items)
 
 pub loop-index-preserved : goal.loop-index-preserved
-loop-index-preserved c = c.in_ok-push.ensures.items ∙ more-variants c.args.ty.0 c.loop-index.index c.args.variants.now.items c.loop-index.variants.items c.loop-index.invariant
+loop-index-preserved c = c.in_ok-push.ensures.items ∙ more-variants c.args.ty.0 c.loop-index.index c.args.variants.now.items c.loop-index.variants.items
+    c.loop-index.invariant

@@ -35,4 +35,5 @@ loop-cell-preserved c =
     ]
 
 pub returns : goal.returns
-returns c = only_end c.args.store.now c.args.target c.args.cells.now c.loop-cell.cell-index c.loop-cell.only (omega (arith, c.loop-cell-test.false)) c.loop-cell.invariant
+returns c = only_end c.args.store.now c.args.target c.args.cells.now c.loop-cell.cell-index c.loop-cell.only (omega (arith, c.loop-cell-test.false))
+    c.loop-cell.invariant

@@ -8,7 +8,8 @@ use Rattle.witness_store.proofs.preorder.preorder.Goals as goal
 pub loop-place-init : goal.loop-place-init
 loop-place-init c =
     let nodes = c.nodes-nodes.result.now in
-    ap (λ l. l ++ waiting_for nodes c.in_ok-waiting.waiting.items) c.new-places.ensures.items ∙ ap (waiting_for nodes) c.in_ok-waiting.ensures ∙ waiting-root nodes
+    ap (λ l. l ++ waiting_for nodes c.in_ok-waiting.waiting.items) c.new-places.ensures.items ∙ ap (waiting_for nodes) c.in_ok-waiting.ensures ∙
+    waiting-root nodes
 
 pub loop-place-preserved : goal.loop-place-preserved
 loop-place-preserved c =

@@ -41,7 +41,8 @@ loop-cell-preserved c =
                 let (x, also) = present standing i within in
                 let on : decoded.is_on a track x.at ≡ true =
                 sym (on-node nodes tree x.at (Some f.node) track (are.each i f x at also).node) ∙ sym c.is_on.ensures ∙ w.if-is_on.true in
-                added ∙ named-yes (decoded.is_on a track) standing i number x old also c.loop-cell.invariant.number (c.loop-cell.invariant.named standing tree are) on;
+                added ∙ named-yes (decoded.is_on a track) standing i number x old also c.loop-cell.invariant.number
+                (c.loop-cell.invariant.named standing tree are) on;
           }
       | else-is_on w ↦
           let kept = w.named-is in
@@ -54,6 +55,7 @@ loop-cell-preserved c =
                 let (x, also) = present standing i within in
                 let off : decoded.is_on a track x.at ≡ false =
                 sym (on-node nodes tree x.at (Some f.node) track (are.each i f x at also).node) ∙ sym c.is_on.ensures ∙ w.if-is_on.false in
-                kept ∙ named-no (decoded.is_on a track) standing i number x old also c.loop-cell.invariant.number (c.loop-cell.invariant.named standing tree are) off;
+                kept ∙ named-no (decoded.is_on a track) standing i number x old also c.loop-cell.invariant.number
+                (c.loop-cell.invariant.named standing tree are) off;
           }
     ]

@@ -18,7 +18,8 @@ loop-index-preserved c = λ standing found_as.
     let within : i < length vars = omega (arith, c.loop-index-test.true, count) in
     let (v, at) = present vars i within in
     let kind : c.in-Some.kind.now ≡ v.kind =
-    same_Some c.in-Some.kind.now v.kind (c.in-Some.ensures ∙ ap (λ vs. option_map (λ (entry : VarEntry). entry.kind) (slice_get vs i)) c.vars-in-loop-index.ensures.value
+    same_Some c.in-Some.kind.now v.kind (c.in-Some.ensures ∙ ap (λ vs. option_map (λ (entry : VarEntry). entry.kind) (slice_get vs i))
+    c.vars-in-loop-index.ensures.value
     ∙ ap (option_map (λ (entry : VarEntry). entry.kind)) at) in
     c.in_ok-push.ensures.ok
     ∙ vars-next types vars a standing i v c.loop-index.values c.in_ok-value_of.field-0 at (c.loop-index.invariant standing found_as)

@@ -24,7 +24,8 @@ unwrap-a-requires c =
 pub conjoin-requires : goal.conjoin-requires
 conjoin-requires c =
     let popped = (rw c.unwrap-b.ensures at c.pop.ensures) ∙ ap (λ (xs : List AutoView). c.unwrap-b.result ∷ xs) (rw c.unwrap-a.ensures at c.pop-2.ensures) in
-    let rests = subst (λ (xs : List AutoView). Rests c.args.g.now c.args.interner.now c.args.shelf.now xs c.args.kept.now) popped c.requires.going.stands.rests in
+    let rests = subst (λ (xs : List AutoView). Rests c.args.g.now c.args.interner.now c.args.shelf.now xs c.args.kept.now) popped
+    c.requires.going.stands.rests in
     record {
       others = c.pop-2.new.self;
       holds = Holds-swap c.args.g.now c.args.shelf.now c.unwrap-a.result c.unwrap-b.result (c.pop-2.new.self ++ kept_autos c.args.kept.now) rests.holds;
@@ -33,7 +34,8 @@ conjoin-requires c =
 pub returns-in_err-auto-clause-err : goal.returns-in_err-auto-clause-err
 returns-in_err-auto-clause-err c =
     let popped = (rw c.unwrap-b.ensures at c.pop.ensures) ∙ ap (λ (xs : List AutoView). c.unwrap-b.result ∷ xs) (rw c.unwrap-a.ensures at c.pop-2.ensures) in
-    let rests = subst (λ (xs : List AutoView). Rests c.args.g.now c.args.interner.now c.args.shelf.now xs c.args.kept.now) popped c.requires.going.stands.rests in
+    let rests = subst (λ (xs : List AutoView). Rests c.args.g.now c.args.interner.now c.args.shelf.now xs c.args.kept.now) popped
+    c.requires.going.stands.rests in
     on_err _ c.from_residual.result
     (Rests-gone c.args.g.now c.args.interner.now c.args.shelf.now c.conjoin.new.shelf (c.unwrap-a.result ∷ c.unwrap-b.result ∷ []) c.pop-2.new.self
     c.args.kept.now c.conjoin.new.kept c.in_err-auto.ensures.err
@@ -53,7 +55,8 @@ returns-in_err-auto-clause-limit c = λ stopped.
 pub come-requires : goal.come-requires
 come-requires c =
     let popped = (rw c.unwrap-b.ensures at c.pop.ensures) ∙ ap (λ (xs : List AutoView). c.unwrap-b.result ∷ xs) (rw c.unwrap-a.ensures at c.pop-2.ensures) in
-    let rests = subst (λ (xs : List AutoView). Rests c.args.g.now c.args.interner.now c.args.shelf.now xs c.args.kept.now) popped c.requires.going.stands.rests in (
+    let rests = subst (λ (xs : List AutoView). Rests c.args.g.now c.args.interner.now c.args.shelf.now xs c.args.kept.now) popped
+    c.requires.going.stands.rests in (
       c.args.g.now,
       c.args.interner.now,
       Rests-made c.args.g.now c.args.interner.now c.args.shelf.now c.conjoin.new.shelf (c.unwrap-a.result ∷ c.unwrap-b.result ∷ []) c.in_ok-auto.auto

@@ -13,7 +13,8 @@ use Rattle.ws2s_decide.proofs.making.make_quantified.Goals as goal
 pub returns-in_err-auto-clause-err : goal.returns-in_err-auto-clause-err
 returns-in_err-auto-clause-err c =
     let popped = rw c.unwrap-a.ensures at c.pop.ensures in
-    let rests = subst (λ (xs : List AutoView). Rests c.args.g.now c.args.interner.now c.args.shelf.now xs c.args.kept.now) popped c.requires.going.stands.rests in
+    let rests = subst (λ (xs : List AutoView). Rests c.args.g.now c.args.interner.now c.args.shelf.now xs c.args.kept.now) popped
+    c.requires.going.stands.rests in
     on_err _ c.from_residual.result
     (Rests-gone c.args.g.now c.args.interner.now c.args.shelf.now c.quantify.new.shelf (c.unwrap-a.result ∷ []) c.pop.new.self
     c.args.kept.now c.quantify.new.kept c.in_err-auto.ensures.err rests.holds rests.kept_for)
@@ -31,7 +32,8 @@ returns-in_err-auto-clause-limit c = λ stopped.
 pub come-requires : goal.come-requires
 come-requires c =
     let popped = rw c.unwrap-a.ensures at c.pop.ensures in
-    let rests = subst (λ (xs : List AutoView). Rests c.args.g.now c.args.interner.now c.args.shelf.now xs c.args.kept.now) popped c.requires.going.stands.rests in (
+    let rests = subst (λ (xs : List AutoView). Rests c.args.g.now c.args.interner.now c.args.shelf.now xs c.args.kept.now) popped
+    c.requires.going.stands.rests in (
       c.args.g.now,
       c.args.interner.now,
       Rests-made c.args.g.now c.args.interner.now c.args.shelf.now c.quantify.new.shelf (c.unwrap-a.result ∷ []) c.in_ok-auto.auto

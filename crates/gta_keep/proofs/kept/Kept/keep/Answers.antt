@@ -12,14 +12,17 @@ shrink-requires c =
     let first : c.self.inside.automata.entries ≡ c.args.self.now = cc in (
       g,
       HoldsBeside-taken g c.args.shelf.now c.put.new.shelf c.args.id c.args.auto.now c.args.self.now c.put.new.automata.entries
-          (HoldsBeside-none g c.args.shelf.now (c.args.auto.now ∷ []) c.args.self.now held) (subst (λ (es : Entries). TakesIn g c.args.shelf.now c.put.new.shelf c.args.id c.args.auto.now es c.put.new.automata.entries) first (c.put.ensures.takes g is)),
+          (HoldsBeside-none g c.args.shelf.now (c.args.auto.now ∷ []) c.args.self.now held)
+          (subst (λ (es : Entries). TakesIn g c.args.shelf.now c.put.new.shelf c.args.id c.args.auto.now es c.put.new.automata.entries) first
+          (c.put.ensures.takes g is)),
     )
 
 pub returns-clause-takes : goal.returns-clause-takes
 returns-clause-takes c = λ g is.
     let first : c.self.inside.automata.entries ≡ c.args.self.now = cc in
     TakesIn-less g c.args.shelf.now c.put.new.shelf c.shrink.new.shelf c.args.id c.args.auto.now c.args.self.now c.put.new.automata.entries
-    c.shrink.new.self (subst (λ (es : Entries). TakesIn g c.args.shelf.now c.put.new.shelf c.args.id c.args.auto.now es c.put.new.automata.entries) first (c.put.ensures.takes g is)) (c.shrink.ensures.passes g)
+    c.shrink.new.self (subst (λ (es : Entries). TakesIn g c.args.shelf.now c.put.new.shelf c.args.id c.args.auto.now es c.put.new.automata.entries) first
+    (c.put.ensures.takes g is)) (c.shrink.ensures.passes g)
 
 pub returns-clause-there : goal.returns-clause-there
 returns-clause-there c =

@@ -20,8 +20,13 @@ loop-auto-preserved c =
     let held = c.loop-auto.invariant.held.1 in
     record {
       passes = λ g. Passes-both g c.args.shelf.now c.loop-auto.shelf c.release.new.shelf [] [] [] _ was now (c.loop-auto.invariant.passes g)
-          (popped-passes h c.loop-auto.shelf c.release.new.shelf was now held _ c.in-Some.ensures.value are c.release.ensures.shelf c.release.ensures.dropped g);
-      held = (h, popped-held h c.loop-auto.shelf c.release.new.shelf was now held _ c.in-Some.ensures.value are c.release.ensures.shelf c.release.ensures.dropped);
+          (popped-passes h c.loop-auto.shelf c.release.new.shelf was now held _ c.in-Some.ensures.value are c.release.ensures.shelf
+          c.release.ensures.dropped g);
+      held = (
+        h,
+        popped-held h c.loop-auto.shelf c.release.new.shelf was now held _ c.in-Some.ensures.value are c.release.ensures.shelf
+            c.release.ensures.dropped,
+      );
     }
 
 pub returns-clause-passes : goal.returns-clause-passes

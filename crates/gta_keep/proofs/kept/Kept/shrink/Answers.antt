@@ -18,8 +18,13 @@ loop-auto-preserved c =
     let after = c.fall_out.new.self in
     record {
       passes = λ g. Passes-both g c.args.shelf.now l.shelf new [] [] [] c.args.self.now l.self after (l.invariant.passes g)
-          (taken-gone h l.shelf new l.self after held c.in-Some.auto (λ k. c.in-Some.ensures.passes k l.shelf) c.release.ensures.shelf c.release.ensures.dropped g);
-      held = (h, taken-held h l.shelf new l.self after held c.in-Some.auto (λ k. c.in-Some.ensures.passes k l.shelf) c.release.ensures.shelf c.release.ensures.dropped);
+          (taken-gone h l.shelf new l.self after held c.in-Some.auto (λ k. c.in-Some.ensures.passes k l.shelf) c.release.ensures.shelf
+          c.release.ensures.dropped g);
+      held = (
+        h,
+        taken-held h l.shelf new l.self after held c.in-Some.auto (λ k. c.in-Some.ensures.passes k l.shelf) c.release.ensures.shelf
+            c.release.ensures.dropped,
+      );
       stays = λ auto there. c.in-Some.ensures.stays auto (l.invariant.stays auto there);
     }
 
