@@ -1,3 +1,4 @@
+pub mod ParseFirsts
 pub mod ParseTable
 pub mod TableLaws
 pub mod Productions

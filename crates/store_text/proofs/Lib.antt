@@ -1,5 +1,6 @@
 pub mod Writing
 pub mod Fitting
+pub mod ReadValuesFit
 pub mod ReadFits
 pub mod ReadNext
 pub mod ReadFresh

@@ -1,5 +1,6 @@
 pub mod HandingLemmas
 pub mod MovingLemmas
+pub mod StandingLemmas
 pub mod NarrowLemmas
 pub mod NarrowedPartsLemmas
 pub mod NarrowingLemmas
