@@ -1,6 +1,10 @@
-//! Programs with all forms, and their trees.
+//! Programs with all forms, and their typed trees.
 
-use crate::reading::read;
+ghost use Rattle.std.specs.Prelude.{◌<◌, length};
+
+use pale_parse::parse;
+use pale_text::{TextStop, lex};
+use pale_types::{Typed, check_types};
 use std::alloc::{AllocError, Global};
 use std::test::Fail;
 
@@ -100,32 +104,34 @@ Cell(Path(Path { var: VarId(4), fields: Items { held: [FieldId { ty: TypeId(0), 
 index: 1 }] } })))), Do(10, Assign(Path { var: VarId(4), fields: Items { held: [] } \
 }, Cell(Null)))] } }";
 
-/// The first procedure as it is printed for debugging, or what is printed of the refusal.
-fn tree_of(alloc: Global, text: &[u8]) -> Result<String, AllocError> {
-    if text.len() >= 100_000 {
-        return format!(in alloc; "too long");
+/// The texts and their trees.
+static ROWS: [(&[u8], &str); 2] = [(TEXT, TREE), (FORMS, FORMS_TREE)];
+
+fn read(alloc: Global, text: &[u8]) -> Result<Typed, TextStop>
+    requires { length text.now < u32.MAX }
+{
+    let list = lex(alloc, text)?;
+    let program = parse(alloc, &list)?;
+    check_types(alloc, &program)
+}
+
+/// Whether this is how a text's first procedure is printed for debugging.
+fn is_tree(alloc: Global, text: &[u8], want: &str) -> Result<bool, TextStop> {
+    if text.len() >= 1000 {
+        return Ok(false);
     }
-    match read(alloc, text) {
-        Err(stop) => format!(in alloc; "{stop}"),
-        Ok(typed) => match typed.proc(0) {
-            None => format!(in alloc; "no procedure"),
-            Some(proc) => format!(in alloc; "{proc:?}"),
-        },
-    }
+    let typed = read(alloc, text)?;
+    let Some(procedure) = typed.proc(0) else {
+        return Ok(false);
+    };
+    let tree = format!(in alloc; "{procedure:?}")?;
+    Ok(tree.as_str() == want)
 }
 
 #[test]
 fn each_form_is_typed(rt: HostRuntime) -> Result<(), Fail> {
-    let alloc = rt.alloc();
-    let tree = tree_of(alloc, TEXT)?;
-    assert_eq!(rt; tree.as_str(), TREE);
-    Ok(())
-}
-
-#[test]
-fn each_form_within_statements_is_typed(rt: HostRuntime) -> Result<(), Fail> {
-    let alloc = rt.alloc();
-    let tree = tree_of(alloc, FORMS)?;
-    assert_eq!(rt; tree.as_str(), FORMS_TREE);
+    for (text, tree) in ROWS {
+        assert!(rt; is_tree(rt.alloc(), text, tree)?, "{tree}");
+    }
     Ok(())
 }
