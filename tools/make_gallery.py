@@ -96,18 +96,33 @@ def page_entries(page):
             yield Entry(f"{from_top(page)}#{place_of(text, begin, seen)}", *call, answer, int(behind[1]))
 
 
+def expanded(text, pieces):
+    """A text of a bundle with its pieces put in and what it repeats written out."""
+    def times(found):
+        count, piece = int(found.group(1)), found.group(2)
+        return "".join(piece.replace("%-1", str(k - 1)).replace("%", str(k)) for k in range(1, count + 1))
+
+    for name, piece in pieces.items():
+        text = text.replace(name, piece)
+    return re.sub(r"\{\{(\d+)\*(.*?)\}\}(?!\})", times, text, flags=re.S)
+
+
 def own_entries():
     """The entries of the bundles in texts/."""
     folder = os.path.join(CRATE, "texts")
     for file in sorted(os.listdir(folder)):
+        pieces = {}
         for part in read(os.path.join(folder, file)).split(HEAD)[1:]:
             head, _, rest = part.partition("\n")
+            if re.fullmatch(r"\{\{[a-z][a-z -]*\}\}", head):
+                pieces[head] = rest
+                continue
             text, found, answer = ("\n" + rest).partition(ANSWER)
             status, _, output = answer.partition("\n")
             if not found or not re.fullmatch("[0-4]", status):
                 raise Wrong(f"texts/{file}: {head} has no answer")
             name, *words = head.split()
-            yield Entry(name, words, text[1:], output, int(status))
+            yield Entry(name, words, expanded(text[1:], pieces), expanded(output, pieces), int(status))
 
 
 def entries():

@@ -51,6 +51,67 @@ static REPEATED: &[(&str, Parts, &str, u8)] = &[
         "refused 1:1 big-formula\n",
         3,
     ),
+    // Of formulas that are too large one more than the most.
+    (
+        "ws2s",
+        ("ws2s; var2 X;", "X sub X;", 10_000, ""),
+        "valid\n",
+        0,
+    ),
+    (
+        "ws2s",
+        ("ws2s; var2 X;", "X sub X;", 32_768, ""),
+        "valid\n",
+        0,
+    ),
+    (
+        "ws2s",
+        ("ws2s; var2 X;", "X sub X;", 32_769, ""),
+        "refused 1:1 big-formula\n",
+        3,
+    ),
+    (
+        "ws2s",
+        ("ws2s; var2 X; X sub X", " & X sub X", 32_767, ";"),
+        "valid\n",
+        0,
+    ),
+    (
+        "ws2s",
+        ("ws2s; var2 X; X sub X", " & X sub X", 32_768, ";"),
+        "refused 1:1 big-formula\n",
+        3,
+    ),
+    (
+        "ws2s",
+        ("ws2s; var2 X; X sub X", " | X sub X", 13_106, ";"),
+        "valid\n",
+        0,
+    ),
+    (
+        "ws2s",
+        ("ws2s; var2 X; X sub X", " | X sub X", 13_107, ";"),
+        "refused 1:1 big-formula\n",
+        3,
+    ),
+    (
+        "ws2s",
+        ("ws2s; var2 X; X sub X", " <=> X sub X", 4_999, ";"),
+        "refused 1:1 big-formula\n",
+        3,
+    ),
+    (
+        "ws2s --limit 1",
+        ("ws2s; var2 X; root", ".0", 21_843, " in X;"),
+        "limit\n",
+        4,
+    ),
+    (
+        "ws2s",
+        ("ws2s; var2 X; root", ".0", 21_844, " in X;"),
+        "refused 1:1 big-formula\n",
+        3,
+    ),
     // Steps of a triple.
     (
         "check",
@@ -126,20 +187,56 @@ type Numbered = (
     &'static str,
 );
 
-/// Texts, and how they are refused.
-static NUMBERED: &[(Numbered, &str)] = &[
-    (("", "type T", " = { }\n", 34, ""), "33:6 many-types"),
+/// Words, a text, what is written for it, and the status.
+static NUMBERED: &[(&str, Numbered, &str, u8)] = &[
     (
+        "check",
+        ("", "type T", " = { }\n", 34, ""),
+        "refused 33:6 many-types\n",
+        3,
+    ),
+    (
+        "check",
         ("type T = {", " bool f", ";", 34, " }\n"),
-        "1:328 many-fields",
+        "refused 1:328 many-fields\n",
+        3,
     ),
     (
+        "check",
         ("type T = { }", " | v", " { }", 18, "\n"),
-        "1:167 many-variants",
+        "refused 1:167 many-variants\n",
+        3,
     ),
     (
+        "check",
         ("proc p(bool v0", ", bool v", "", 65, ") { }\n"),
-        "1:643 many-vars",
+        "refused 1:643 many-vars\n",
+        3,
+    ),
+    // Nodes of a formula: one for each name that is bound, and two for each position, with seven for what breaks the text.
+    (
+        "ws2s",
+        ("ws2s; var2 X; ex2 n0", ", n", "", 65_534, ": X sub X;"),
+        "valid\n",
+        0,
+    ),
+    (
+        "ws2s",
+        ("ws2s; var2 X; ex2 n0", ", n", "", 65_535, ": X sub X;"),
+        "refused 1:1 big-formula\n",
+        3,
+    ),
+    (
+        "ws2s --limit 1",
+        ("ws2s; var1 x0", ", x", "", 32_764, ";"),
+        "limit\n",
+        4,
+    ),
+    (
+        "ws2s",
+        ("ws2s; var1 x0", ", x", "", 32_765, ";"),
+        "refused 1:1 big-formula\n",
+        3,
     ),
 ];
 
@@ -157,17 +254,23 @@ fn numbered(
     Ok(text)
 }
 
-fn numbered_is_refused(alloc: Global, parts: Numbered, fault: &str) -> Result<bool, AllocError> {
+/// Whether `pale`, with these words behind it, writes this for the text of these parts, with this status.
+fn writes_numbered(
+    alloc: Global,
+    words: &str,
+    parts: Numbered,
+    want: &str,
+    number: u8,
+) -> Result<bool, AllocError> {
     let text = numbered(alloc, parts)?;
-    let want = format!(in alloc; "refused {fault}\n")?;
-    writes(alloc, "check", text.as_bytes(), want.as_bytes(), 3)
+    writes(alloc, words, text.as_bytes(), want.as_bytes(), number)
 }
 
 #[test]
-fn each_number_of_names_has_its_refusal(rt: HostRuntime) -> Result<(), Fail> {
-    for (parts, fault) in NUMBERED {
-        let is_so = numbered_is_refused(rt.alloc(), *parts, fault)?;
-        assert!(rt; is_so, "{fault}");
+fn each_number_of_names_has_its_bound(rt: HostRuntime) -> Result<(), Fail> {
+    for (words, parts, want, number) in NUMBERED {
+        let is_so = writes_numbered(rt.alloc(), words, *parts, want, *number)?;
+        assert!(rt; is_so, "{want}");
     }
     Ok(())
 }

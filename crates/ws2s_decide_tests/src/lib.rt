@@ -1,4 +1,4 @@
-//! Tests of deciding: worked peaks, weights, and what is shared. The crate has nothing else.
+//! Tests of deciding below what `pale ws2s` answers: peaks of formulas by hand, and what is shared. The crate has nothing else.
 #![tactic(auto)]
 
 #[cfg(test)]
@@ -7,7 +7,5 @@ mod formulas;
 mod found;
 #[cfg(test)]
 mod peaks;
-#[cfg(test)]
-mod texts;
 #[cfg(test)]
 mod towers;

@@ -1,13 +1,16 @@
-//! Tests of WS2S texts from their bytes: source trees, names, levels and reductions. The crate has nothing else.
+//! Tests of WS2S below what `pale` answers: the two formulas of a text in full, and passes, with formulas whose rewritings
+//! were worked out by hand, lists of passes, and formulas of 65,536 levels. The crate has nothing else.
+//!
+//! What a text shows by its answer stands in `crates/pale_gallery/texts/`, which takes no proof of a test.
 #![tactic(auto)]
 
 #[cfg(test)]
-mod reductions;
+mod formulas;
 #[cfg(test)]
-mod sources;
+mod lists;
 #[cfg(test)]
-mod texts_read;
+mod reduced;
+#[cfg(test)]
+mod rewritings;
 #[cfg(test)]
 mod towers;
-#[cfg(test)]
-mod trees;

@@ -1,209 +1,257 @@
-//! Texts of many levels, and how many are too many.
+//! Formulas of 65,536 levels.
 
+use crate::formulas::is;
 use std::alloc::{AllocError, Global};
+use std::test::Fail;
+use ws2s_core::{Formula, Interner, Track, intern};
+use ws2s_narrow::narrow_scope;
+use ws2s_pass::{drop_unused, flatten_not, fold_constants};
 
-/// A text that repeats its openers: `head`, so many times `open`, `top`, so many times `close`, and `tail`. Where an opener
-/// goes on, a number in two letters stands between, so that no name is bound twice.
-#[derive(Clone, Copy)]
-pub(super) struct Tower {
-    pub(super) head: &'static [u8],
-    pub(super) open: &'static [u8],
-    pub(super) goes_on: &'static [u8],
-    pub(super) top: &'static [u8],
-    pub(super) close: &'static [u8],
-    pub(super) tail: &'static [u8],
+const LEVELS: u32 = 65_536;
+
+/// `Single 0` under so many negations.
+fn negations(alloc: Global) -> Result<Formula, AllocError> {
+    let mut formula = Formula::Single(Track(0));
+    for _ in 0..LEVELS {
+        formula = Formula::not(alloc, formula)?;
+    }
+    Ok(formula)
 }
 
-impl Tower {
-    fn push_opener(&self, text: &mut Vec<u8>, level: u16) -> Result<(), AllocError> {
-        text.extend_from_slice(self.open)?;
-        if !self.goes_on.is_empty() {
-            let number = [b'a' + (level / 26 % 26) as u8, b'a' + (level % 26) as u8];
-            text.extend_from_slice(&number)?;
-        }
-        text.extend_from_slice(self.goes_on)
+/// `Single 0` under so many quantifiers of other tracks.
+fn quantifiers(alloc: Global) -> Result<Formula, AllocError> {
+    let mut formula = Formula::Single(Track(0));
+    for track in 0..LEVELS {
+        formula = Formula::ex2(alloc, Track(track + 1), formula)?;
     }
-
-    fn push_text(&self, text: &mut Vec<u8>, count: u16) -> Result<(), AllocError> {
-        text.extend_from_slice(self.head)?;
-        for level in 0..count {
-            self.push_opener(text, level)?;
-        }
-        text.extend_from_slice(self.top)?;
-        for _ in 0..count {
-            text.extend_from_slice(self.close)?;
-        }
-        text.extend_from_slice(self.tail)
-    }
-
-    /// The text with so many openers.
-    pub(super) fn text(&self, alloc: Global, count: u16) -> Result<Vec<u8>, AllocError> {
-        let mut text = Vec::new(alloc);
-        self.push_text(&mut text, count)?;
-        Ok(text)
-    }
+    Ok(formula)
 }
 
-const NOT: Tower = Tower {
-    head: b"ws2s; ",
-    open: b"~",
-    goes_on: b"",
-    top: b"true",
-    close: b"",
-    tail: b";",
-};
+/// The formula and so often that a set is within itself.
+fn conjunctions(alloc: Global, first: Formula) -> Result<Formula, AllocError> {
+    let mut formula = first;
+    for track in 0..LEVELS {
+        let within = Formula::Sub(Track(track), Track(track));
+        formula = Formula::and(alloc, formula, within)?;
+    }
+    Ok(formula)
+}
 
-const GROUP: Tower = Tower {
-    head: b"ws2s; ",
-    open: b"(",
-    goes_on: b"",
-    top: b"true",
-    close: b")",
-    tail: b";",
-};
+fn single(track: u32) -> Formula {
+    Formula::Single(Track(track))
+}
 
-const ARROW: Tower = Tower {
-    head: b"ws2s; ",
-    open: b"true => ",
-    goes_on: b"",
-    top: b"true",
-    close: b"",
-    tail: b";",
-};
+/// So many quantifiers, each before a conjunction that has its track on the right.
+fn alternations(alloc: Global) -> Result<Formula, AllocError> {
+    let mut formula = single(0);
+    for track in 1..LEVELS {
+        let both = Formula::and(alloc, formula, single(track))?;
+        formula = Formula::ex2(alloc, Track(track), both)?;
+    }
+    Ok(formula)
+}
 
-const SOME_POSITION: Tower = Tower {
-    head: b"ws2s; ",
-    open: b"ex1 n",
-    goes_on: b": ",
-    top: b"true",
-    close: b"",
-    tail: b";",
-};
+/// Those with each quantifier on the right.
+fn narrow_alternations(alloc: Global) -> Result<Formula, AllocError> {
+    let mut formula = single(0);
+    for track in 1..LEVELS {
+        let right = Formula::ex2(alloc, Track(track), single(track))?;
+        formula = Formula::and(alloc, formula, right)?;
+    }
+    Ok(formula)
+}
 
-const EACH_POSITION: Tower = Tower {
-    head: b"ws2s; ",
-    open: b"all1 n",
-    goes_on: b": ",
-    top: b"true",
-    close: b"",
-    tail: b";",
-};
+fn are_equal(alloc: Global, one: &Formula, other: &Formula) -> Result<bool, AllocError> {
+    let mut interner = Interner::new(alloc);
+    let first = intern(alloc, &mut interner, one)?;
+    let second = intern(alloc, &mut interner, other)?;
+    Ok(first == second)
+}
 
-const SOME_SET: Tower = Tower {
-    head: b"ws2s; ",
-    open: b"ex2 n",
-    goes_on: b": ",
-    top: b"true",
-    close: b"",
-    tail: b";",
-};
+#[test]
+fn negations_are_left_out(rt: HostRuntime) -> Result<(), Fail> {
+    let whole = negations(rt.alloc())?;
+    let made = flatten_not(rt.alloc(), &whole)?;
+    assert!(rt; is(rt.alloc(), &made, "=0")?);
+    Ok(())
+}
 
-const EACH_SET: Tower = Tower {
-    head: b"ws2s; ",
-    open: b"all2 n",
-    goes_on: b": ",
-    top: b"true",
-    close: b"",
-    tail: b";",
-};
+#[test]
+fn quantifiers_are_left_out(rt: HostRuntime) -> Result<(), Fail> {
+    let whole = quantifiers(rt.alloc())?;
+    let made = drop_unused(rt.alloc(), &whole)?;
+    assert!(rt; is(rt.alloc(), &made, "=0")?);
+    Ok(())
+}
 
-const NOT_GROUP: Tower = Tower {
-    head: b"ws2s; ",
-    open: b"~(",
-    goes_on: b"",
-    top: b"true",
-    close: b")",
-    tail: b";",
-};
+#[test]
+fn constants_are_left_out(rt: HostRuntime) -> Result<(), Fail> {
+    let whole = conjunctions(rt.alloc(), single(0))?;
+    let made = fold_constants(rt.alloc(), &whole)?;
+    assert!(rt; is(rt.alloc(), &made, "=0")?);
+    Ok(())
+}
 
-const BODY: Tower = Tower {
-    head: b"ws2s; pred p() = ",
-    open: b"(",
-    goes_on: b"",
-    top: b"true",
-    close: b")",
-    tail: b"; p();",
-};
+#[test]
+fn free_tracks_are_merged(rt: HostRuntime) -> Result<(), Fail> {
+    let whole = conjunctions(rt.alloc(), single(0))?;
+    let made = drop_unused(rt.alloc(), &whole)?;
+    assert_eq!(rt; made.size(), whole.size());
+    Ok(())
+}
 
-const AROUND_EMPTY: Tower = Tower {
-    head: b"ws2s; var2 X; ",
-    open: b"(",
-    goes_on: b"",
-    top: b"empty(X)",
-    close: b")",
-    tail: b";",
-};
+/// One quantifier goes through all conjunctions.
+#[test]
+fn quantifiers_go_all_the_way_in(rt: HostRuntime) -> Result<(), Fail> {
+    let last = LEVELS + 1;
+    let inner = conjunctions(rt.alloc(), single(last))?;
+    let whole = Formula::ex2(rt.alloc(), Track(last), inner)?;
+    let made = narrow_scope(rt.alloc(), &whole)?;
+    let first = Formula::ex2(rt.alloc(), Track(last), single(last))?;
+    let wanted = conjunctions(rt.alloc(), first)?;
+    assert!(rt; are_equal(rt.alloc(), &made, &wanted)?);
+    Ok(())
+}
 
-const AROUND_USE: Tower = Tower {
-    head: b"ws2s; pred p(var1 x) = true; ",
-    open: b"(",
-    goes_on: b"",
-    top: b"p(root)",
-    close: b")",
-    tail: b";",
-};
+#[test]
+fn each_quantifier_goes_in(rt: HostRuntime) -> Result<(), Fail> {
+    let whole = alternations(rt.alloc())?;
+    let made = narrow_scope(rt.alloc(), &whole)?;
+    let wanted = narrow_alternations(rt.alloc())?;
+    assert!(rt; are_equal(rt.alloc(), &made, &wanted)?);
+    Ok(())
+}
 
-const SIDE_BY_SIDE: Tower = Tower {
-    head: b"ws2s; ",
-    open: b"(~true => ex1 n",
-    goes_on: b": true) & ",
-    top: b"true",
-    close: b"",
-    tail: b";",
-};
+/// So often that a set is within itself, and the formula innermost on the right.
+fn right_conjunctions(alloc: Global, last: Formula) -> Result<Formula, AllocError> {
+    let mut formula = last;
+    for track in 0..LEVELS {
+        let within = Formula::Sub(Track(track), Track(track));
+        formula = Formula::and(alloc, within, formula)?;
+    }
+    Ok(formula)
+}
 
-const UNFINISHED: Tower = Tower {
-    head: b"ws2s; ",
-    open: b"(",
-    goes_on: b"",
-    top: b"",
-    close: b"",
-    tail: b"",
-};
+/// So many quantifiers, each before a negation.
+fn negated_quantifiers(alloc: Global, first: Formula) -> Result<Formula, AllocError> {
+    let mut formula = first;
+    for track in 0..LEVELS {
+        let negated = Formula::not(alloc, formula)?;
+        formula = Formula::ex2(alloc, Track(track), negated)?;
+    }
+    Ok(formula)
+}
 
-const WRONG_BEFORE: Tower = Tower {
-    head: b"ws2s ",
-    open: b"(",
-    goes_on: b"",
-    top: b"true",
-    close: b")",
-    tail: b";",
-};
+#[test]
+fn right_constants_are_left_out(rt: HostRuntime) -> Result<(), Fail> {
+    let whole = right_conjunctions(rt.alloc(), single(0))?;
+    let made = fold_constants(rt.alloc(), &whole)?;
+    assert!(rt; is(rt.alloc(), &made, "=0")?);
+    Ok(())
+}
 
-const UNKNOWN_BEFORE: Tower = Tower {
-    head: b"ws2s; x = y & ",
-    open: b"(",
-    goes_on: b"",
-    top: b"true",
-    close: b")",
-    tail: b";",
-};
+#[test]
+fn right_conjunctions_are_used(rt: HostRuntime) -> Result<(), Fail> {
+    let whole = right_conjunctions(rt.alloc(), single(0))?;
+    let made = drop_unused(rt.alloc(), &whole)?;
+    assert!(rt; are_equal(rt.alloc(), &made, &whole)?);
+    Ok(())
+}
 
-/// Towers, how often each repeats its opener, and what is read of it.
-pub(super) static TOWERS: &[(Tower, u16, &str)] = &[
-    (NOT, 200, "text"),
-    (NOT, 201, "refused 1:207 deep"),
-    (GROUP, 200, "text"),
-    (GROUP, 201, "refused 1:207 deep"),
-    (ARROW, 200, "text"),
-    (ARROW, 201, "refused 1:1612 deep"),
-    (SOME_POSITION, 200, "text"),
-    (SOME_POSITION, 201, "refused 1:1807 deep"),
-    (EACH_POSITION, 200, "text"),
-    (EACH_POSITION, 201, "refused 1:2007 deep"),
-    (SOME_SET, 200, "text"),
-    (SOME_SET, 201, "refused 1:1807 deep"),
-    (EACH_SET, 200, "text"),
-    (EACH_SET, 201, "refused 1:2007 deep"),
-    (NOT_GROUP, 100, "text"),
-    (NOT_GROUP, 101, "refused 1:207 deep"),
-    (BODY, 200, "text"),
-    (BODY, 201, "refused 1:218 deep"),
-    (AROUND_EMPTY, 200, "text"),
-    (AROUND_USE, 200, "text"),
-    (SIDE_BY_SIDE, 300, "text"),
-    (UNFINISHED, 200, "refused 1:207 syntax"),
-    (UNFINISHED, 201, "refused 1:207 deep"),
-    (WRONG_BEFORE, 201, "refused 1:6 syntax"),
-    (UNKNOWN_BEFORE, 201, "refused 1:215 deep"),
-];
+#[test]
+fn right_conjunctions_have_no_negations(rt: HostRuntime) -> Result<(), Fail> {
+    let whole = right_conjunctions(rt.alloc(), single(0))?;
+    let made = flatten_not(rt.alloc(), &whole)?;
+    assert!(rt; are_equal(rt.alloc(), &made, &whole)?);
+    Ok(())
+}
+
+#[test]
+fn quantifiers_go_all_the_way_right(rt: HostRuntime) -> Result<(), Fail> {
+    let last = LEVELS + 1;
+    let inner = right_conjunctions(rt.alloc(), single(last))?;
+    let whole = Formula::ex2(rt.alloc(), Track(last), inner)?;
+    let made = narrow_scope(rt.alloc(), &whole)?;
+    let first = Formula::ex2(rt.alloc(), Track(last), single(last))?;
+    let wanted = right_conjunctions(rt.alloc(), first)?;
+    assert!(rt; are_equal(rt.alloc(), &made, &wanted)?);
+    Ok(())
+}
+
+#[test]
+fn negated_quantifiers_are_left_out(rt: HostRuntime) -> Result<(), Fail> {
+    let whole = negated_quantifiers(rt.alloc(), single(LEVELS))?;
+    let made = drop_unused(rt.alloc(), &whole)?;
+    let wanted = negations(rt.alloc())?;
+    assert_eq!(rt; made.size(), wanted.size());
+    Ok(())
+}
+
+#[test]
+fn negated_quantifiers_stay(rt: HostRuntime) -> Result<(), Fail> {
+    let whole = negated_quantifiers(rt.alloc(), single(LEVELS))?;
+    let made = narrow_scope(rt.alloc(), &whole)?;
+    assert!(rt; are_equal(rt.alloc(), &made, &whole)?);
+    Ok(())
+}
+
+/// An atom for each of so many tracks, the first one outermost, each under its quantifier where that is asked.
+fn atoms(alloc: Global, is_narrow: bool) -> Result<Formula, AllocError> {
+    let mut formula = single(0);
+    for k in 0..LEVELS {
+        let track = Track(LEVELS - k);
+        let mut atom = Formula::Single(track);
+        if is_narrow {
+            atom = Formula::ex2(alloc, track, atom)?;
+        }
+        formula = Formula::and(alloc, atom, formula)?;
+    }
+    Ok(formula)
+}
+
+/// The formula under the quantifiers of so many tracks, the first one outermost.
+fn quantified(alloc: Global, first: Formula) -> Result<Formula, AllocError> {
+    let mut formula = first;
+    for k in 0..LEVELS {
+        formula = Formula::ex2(alloc, Track(LEVELS - k), formula)?;
+    }
+    Ok(formula)
+}
+
+/// An atom for each of so many tracks and the next one, the first one outermost, each conjunction under the quantifier of
+/// the track that both of its sides have, where that is asked.
+fn links(alloc: Global, is_narrow: bool) -> Result<Formula, AllocError> {
+    let mut formula = Formula::Sub(Track(LEVELS), Track(0));
+    for k in 1..LEVELS {
+        let track = Track(LEVELS - k);
+        let next = Track(LEVELS - k + 1);
+        formula = Formula::and(alloc, Formula::Sub(track, next), formula)?;
+        if is_narrow {
+            formula = Formula::ex2(alloc, next, formula)?;
+        }
+    }
+    Ok(formula)
+}
+
+/// So many quantifiers go through so many conjunctions, each to its atom.
+#[test]
+fn quantifiers_go_to_their_atoms(rt: HostRuntime) -> Result<(), Fail> {
+    let inner = atoms(rt.alloc(), false)?;
+    let whole = quantified(rt.alloc(), inner)?;
+    let made = narrow_scope(rt.alloc(), &whole)?;
+    let wanted = atoms(rt.alloc(), true)?;
+    assert!(rt; are_equal(rt.alloc(), &made, &wanted)?);
+    Ok(())
+}
+
+/// So many quantifiers go through so many conjunctions, each to the one whose sides both have its track.
+#[test]
+fn quantifiers_go_to_their_conjunctions(rt: HostRuntime) -> Result<(), Fail> {
+    let inner = links(rt.alloc(), false)?;
+    let whole = quantified(rt.alloc(), inner)?;
+    let made = narrow_scope(rt.alloc(), &whole)?;
+    let rest = links(rt.alloc(), true)?;
+    let wanted = Formula::ex2(rt.alloc(), Track(1), rest)?;
+    assert!(rt; are_equal(rt.alloc(), &made, &wanted)?);
+    Ok(())
+}
