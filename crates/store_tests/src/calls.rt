@@ -1,43 +1,43 @@
 //! Each call of tables and stores once.
 
-use crate::made::{
-    DBL, MARK, NODE, TREE, made_types, made_vars, put, remove, second, set_field, set_var, set_with,
-};
-use crate::texts_told::VARS;
+ghost use Rattle.std.specs.Prelude.{◌≡◌, IsTrue, IsSomeAnd};
+ghost use Rattle.std.specs.Option.{option_copied};
+ghost use Rattle.store_core.specs.Stores.{class_of};
+
+use crate::tables::{BRANCH, LEAF, NEXT, NODE, RED, SHORT, TREE, made_types, made_vars};
 use std::alloc::{AllocError, Global};
 use std::test::Fail;
 use store_core::{
-    CellId, FieldId, FieldKind, Owner, Store, TypeTable, Value, VarId, VarKind, VarTable, VariantId,
+    CellId, CellList, FieldId, FieldKind, Owner, Store, TypeTable, Value, VarId, VarKind, VarTable,
+    VariantId,
 };
 
 const PLAIN: VariantId = VariantId { ty: NODE, index: 0 };
 
-const UP: FieldId = FieldId { ty: MARK, index: 1 };
-
 fn types_are_told(types: &TypeTable) -> bool {
-    types.types() == 4
-        && types.type_name(DBL) == Some(b"Dbl".as_slice())
-        && types.find_type(b"Tree") == Some(TREE)
+    types.types() == 2
+        && types.type_name(TREE) == Some(b"Tree".as_slice())
+        && types.find_type(b"Node") == Some(NODE)
 }
 
 fn variants_are_told(types: &TypeTable) -> bool {
     types.unnamed(NODE) == Some(PLAIN)
         && types.variants(TREE) == 2
-        && types.variant_name(second(MARK)) == Some(b"hot".as_slice())
-        && types.find_variant(TREE, b"node") == Some(second(TREE))
+        && types.variant_name(BRANCH) == Some(b"node".as_slice())
+        && types.find_variant(TREE, b"leaf") == Some(LEAF)
 }
 
 fn fields_are_told(types: &TypeTable) -> bool {
-    types.fields(MARK) == 3
-        && types.find_field(MARK, b"up") == Some(UP)
-        && types.field_name(UP) == Some(b"up".as_slice())
-        && matches!(types.kind(UP), Some(FieldKind::Bool))
+    types.fields(TREE) == 5
+        && types.find_field(TREE, b"red") == Some(RED)
+        && types.field_name(RED) == Some(b"red".as_slice())
+        && matches!(types.kind(RED), Some(FieldKind::Bool))
 }
 
 fn owners_are_told(types: &TypeTable) -> bool {
-    types.owner(UP) == Some(Owner::Variant(second(MARK)))
-        && types.has(second(MARK), UP)
-        && !types.has(VariantId { ty: MARK, index: 0 }, UP)
+    types.owner(RED) == Some(Owner::Variant(BRANCH))
+        && types.has(BRANCH, RED)
+        && !types.has(LEAF, RED)
 }
 
 fn vars_are_told(vars: &VarTable) -> bool {
@@ -51,7 +51,7 @@ fn vars_are_told(vars: &VarTable) -> bool {
 fn tables_answer_by_number_and_by_name(rt: HostRuntime) -> Result<(), Fail> {
     let alloc = rt.alloc();
     let types = made_types(alloc)?;
-    let vars = made_vars(alloc, VARS)?;
+    let vars = made_vars(alloc, SHORT)?;
     assert!(rt; types_are_told(&types));
     assert!(rt; variants_are_told(&types));
     assert!(rt; fields_are_told(&types));
@@ -60,7 +60,50 @@ fn tables_answer_by_number_and_by_name(rt: HostRuntime) -> Result<(), Fail> {
     Ok(())
 }
 
-const NEXT: FieldId = FieldId { ty: NODE, index: 0 };
+/// A new cell of the variant; `None` where there is none of it.
+fn put(store: &mut Store, types: &TypeTable, v: VariantId) -> Result<Option<CellId>, AllocError> {
+    if v.index < types.variants(v.ty) && store.next() < 9 {
+        Ok(Some(store.put_cell(types, v)?))
+    } else {
+        Ok(None)
+    }
+}
+
+fn is_alike(old: Option<&Value>, value: &Value) -> bool
+    ensures { IsTrue result → IsSomeAnd (option_copied old.entry) (λ old. class_of value.now ≡ class_of old) }
+{
+    match old {
+        Some(old) => old.class() == value.class(),
+        None => false,
+    }
+}
+
+fn set_field(store: &mut Store, c: CellId, f: FieldId, value: Value) {
+    if is_alike(store.field(c, f), &value) {
+        store.set_field(c, f, value);
+    }
+}
+
+fn set_var(store: &mut Store, v: VarId, value: Value) {
+    if is_alike(store.var(v), &value) {
+        store.set_var(v, value);
+    }
+}
+
+fn remove(store: &mut Store, c: CellId) {
+    if store.type_of(c).is_some() {
+        store.remove(c);
+    }
+}
+
+/// The set of a cell.
+fn set_with(alloc: Global, c: CellId) -> Result<CellList, AllocError> {
+    let mut cells = CellList::new(alloc);
+    if cells.is_empty() {
+        cells.push(c)?;
+    }
+    Ok(cells)
+}
 
 /// Whether three cells are put, with the numbers from 1 on.
 fn cells_are_put(store: &mut Store, types: &TypeTable) -> Result<bool, AllocError> {
@@ -119,7 +162,7 @@ fn is_made_and_changed(
 #[test]
 fn a_store_is_made_and_changed(rt: HostRuntime) -> Result<(), Fail> {
     let types = made_types(rt.alloc())?;
-    let vars = made_vars(rt.alloc(), VARS)?;
+    let vars = made_vars(rt.alloc(), SHORT)?;
     assert!(rt; is_made_and_changed(rt.alloc(), &types, &vars)?);
     Ok(())
 }
