@@ -1,10 +1,8 @@
-//! Tests of what no program text can say of tables, stores, store texts, routes and assertions: calls one by one, values below
-//! the text, long routes and deep assertions. What a text can say stands in the bundles of `pale_gallery`. The crate has
-//! nothing else.
+//! Tests of what no program text can say of stores, store texts, routes and assertions: copies, stores on sets of cells, names
+//! from outside a region, routes over names that are no fields, and what is long or deep. What a text can say stands in the
+//! bundles of `pale_gallery`. The crate has nothing else.
 #![tactic(auto)]
 
-#[cfg(test)]
-mod calls;
 #[cfg(test)]
 mod chains;
 #[cfg(test)]

@@ -19,7 +19,7 @@ pub(crate) const TREE: TypeId = TypeId(1);
 
 pub(crate) const LEAF: VariantId = VariantId { ty: TREE, index: 0 };
 
-pub(crate) const BRANCH: VariantId = VariantId { ty: TREE, index: 1 };
+const BRANCH: VariantId = VariantId { ty: TREE, index: 1 };
 
 /// The fields `next` and `prev` of nodes.
 pub(crate) const NEXT: FieldId = FieldId { ty: NODE, index: 0 };
