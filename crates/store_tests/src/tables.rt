@@ -51,6 +51,13 @@ pub(crate) static SHORT: &[(&str, VarKind)] = &[
     ("b", VarKind::Bool),
 ];
 
+/// A tree of two nodes and a leaf, of which `q` is the right node, and two lists of one node each.
+pub(crate) const TREE_LINES: &str =
+    "var x 4\nvar y 5\nvar p null\nvar t 1\nvar q 3\nvar S {4 5}\nvar U {}\nvar b false\nvar v true\n\
+        cell 1 Tree:node up=null left=2 right=3 red=true\ncell 2 Tree:leaf up=1 ripe=true\n\
+        cell 3 Tree:node up=1 left=null right=null red=false\ncell 4 Node next=null prev=null mark=false\n\
+        cell 5 Node next=null prev=null mark=false\n";
+
 fn add_type(types: &mut TypeTable, name: &str) -> Result<(), Fail> {
     if types.find_type(name.as_bytes()).is_some() || types.types() > 9 {
         return Err("no new type".into());

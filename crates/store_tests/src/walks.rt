@@ -1,8 +1,7 @@
 //! Walks along routes that no text can say, over data fields alone: of names that are no data fields, and of a variant without
 //! a name.
 
-use crate::regions::TREE_LINES;
-use crate::tables::{LEAF, NODE, VARS, made_types, made_vars, store_of};
+use crate::tables::{LEAF, NODE, TREE_LINES, VARS, made_types, made_vars, store_of};
 use plain_data::{Boxed, Items};
 use routing_expr::{Followed, ends};
 use std::alloc::{AllocError, Global};

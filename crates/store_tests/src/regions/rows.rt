@@ -1,6 +1,6 @@
 //! Stores, and what is true of them on their parts and rests.
 
-use crate::tables::{LEFT, NEXT, PREV, RED};
+use crate::tables::{LEFT, NEXT, PREV, RED, TREE_LINES};
 use plain_data::Items;
 use std::alloc::{AllocError, Global};
 use store_core::{FieldId, Route, VarId};
@@ -116,13 +116,6 @@ pub struct Case {
     pub rows: &'static [Row],
 }
 
-/// A tree of two nodes and a leaf, of which `q` is the right node, and two lists of one node each.
-pub const TREE_LINES: &str =
-    "var x 4\nvar y 5\nvar p null\nvar t 1\nvar q 3\nvar S {4 5}\nvar U {}\nvar b false\nvar v true\n\
-        cell 1 Tree:node up=null left=2 right=3 red=true\ncell 2 Tree:leaf up=1 ripe=true\n\
-        cell 3 Tree:node up=1 left=null right=null red=false\ncell 4 Node next=null prev=null mark=false\n\
-        cell 5 Node next=null prev=null mark=false\n";
-
 /// Three nodes in a row, of which `p` is in the middle.
 const LIST: Case = Case {
     lines: "var x 1\nvar y null\nvar p 2\nvar t null\nvar q null\nvar S {1 3}\nvar U {1 2 3}\nvar b true\nvar v false\n\
@@ -133,7 +126,7 @@ const LIST: Case = Case {
     ],
 };
 
-/// What is true of those.
+/// A tree and two lists.
 const TREES: Case = Case {
     lines: TREE_LINES,
     rows: &[
