@@ -60,6 +60,7 @@ impl Set {
     }
 }
 
+/// A step of a walk.
 pub enum Step {
     /// The field `next`.
     Next,
@@ -80,6 +81,7 @@ impl Step {
     }
 }
 
+/// What is said of a store.
 pub enum Said {
     Null(Path),
     NotNull(Path),
@@ -91,6 +93,7 @@ pub enum Said {
     Walk(Path, Step, Path),
 }
 
+/// What has to hold there.
 pub enum Held {
     /// All of this.
     Here(&'static [Said]),
@@ -311,4 +314,5 @@ const THREE: Case = Case {
     ],
 };
 
+/// All of these.
 pub static CASES: &[Case] = &[LIST, TREES, DEAD, SETS, TWO, THREE];
