@@ -1,15 +1,14 @@
 //! Copies of stores.
 
-use crate::made::{made_types, made_vars};
-use crate::texts_told::VARS;
+use crate::tables::{SHORT, made_types, made_vars, store_of};
 use std::alloc::Global;
 use std::test::Fail;
 use store_core::{CellId, FieldId, Store, TypeTable, Value, VarId, VarTable};
-use store_text::read_store;
 
-/// Cells of three types with gaps in their numbers, and a set with a dead member.
-const TEXT: &str =
-    "store\nvar x 2\nvar S {2 7}\nvar b true\ncell 2 Node next=2\ncell 4 Tree:node left=4 right=4\ncell 5 Mark:hot on=true up=false at=2\nend\n";
+/// Cells of both types with gaps in their numbers, and a set with a dead member.
+const LINES: &str =
+    "var x 2\nvar S {2 7}\nvar b true\ncell 2 Node next=2 prev=7 mark=true\ncell 4 Tree:node up=5 left=4 right=4 red=true\n\
+        cell 5 Tree:leaf up=null ripe=false\n";
 
 /// Whether the values are the same, or both are missing.
 fn is_same(one: Option<&Value>, other: Option<&Value>) -> bool {
@@ -56,9 +55,9 @@ fn stores_agree(types: &TypeTable, vars: &VarTable, one: &Store, other: &Store) 
     one.cells() == other.cells() && one.next() == other.next() && vars_agree(vars, one, other)
 }
 
-/// Whether the store of the text, which has three cells, and a copy of it are the same.
+/// Whether the store of the lines, which has three cells, and a copy of it are the same.
 fn copy_agrees(alloc: Global, types: &TypeTable, vars: &VarTable) -> Result<bool, Fail> {
-    let store = read_store(alloc, types, vars, TEXT.as_bytes())?;
+    let store = store_of(alloc, types, vars, LINES)?;
     let copy = store.copy(alloc)?;
     Ok(store.cells() == 3 && stores_agree(types, vars, &store, &copy))
 }
@@ -66,7 +65,7 @@ fn copy_agrees(alloc: Global, types: &TypeTable, vars: &VarTable) -> Result<bool
 #[test]
 fn a_copied_store_is_the_same(rt: HostRuntime) -> Result<(), Fail> {
     let types = made_types(rt.alloc())?;
-    let vars = made_vars(rt.alloc(), VARS)?;
+    let vars = made_vars(rt.alloc(), SHORT)?;
     assert!(rt; copy_agrees(rt.alloc(), &types, &vars)?);
     Ok(())
 }

@@ -1,17 +1,21 @@
-//! Tests of tables, stores and store texts. The crate has nothing else.
+//! Tests of what no program text can say of stores, store texts, routes and assertions: copies, stores on sets of cells, names
+//! from outside a region, routes over names that are no fields, and what is long or deep. What a text can say stands in the
+//! bundles of `pale_gallery`. The crate has nothing else.
 #![tactic(auto)]
 
 #[cfg(test)]
-mod calls;
+mod chains;
 #[cfg(test)]
 mod copies;
 #[cfg(test)]
-mod made;
+mod cuts;
 #[cfg(test)]
-mod reading;
+mod regions;
 #[cfg(test)]
 mod routes;
 #[cfg(test)]
-mod texts_told;
+mod tables;
 #[cfg(test)]
-mod written;
+mod told;
+#[cfg(test)]
+mod walks;

@@ -70,24 +70,36 @@ fn long_routes_are_copied(rt: HostRuntime) -> Result<(), Fail> {
     Ok(())
 }
 
+/// Whether a truth value, a variant and a type are copied.
+fn tests_are_copied(alloc: Global) -> Result<bool, AllocError> {
+    let ty = TypeId(1);
+    let truth = Route::IsBool(Items::from_slice(alloc, b"b")?, true);
+    let variant = Route::IsVariant(VariantId { ty, index: 2 });
+    Ok(
+        matches!(&truth.copy(alloc)?, Route::IsBool(_, true))
+            && matches!(
+                &variant.copy(alloc)?,
+                Route::IsVariant(VariantId { index: 2, .. })
+            )
+            && matches!(&Route::IsType(ty).copy(alloc)?, Route::IsType(TypeId(1))),
+    )
+}
+
+/// Whether the inverses and the ends are copied.
+fn steps_are_copied(alloc: Global) -> Result<bool, AllocError> {
+    let up = Route::Up(Items::from_slice(alloc, b"next")?);
+    Ok(
+        matches!(&up.copy(alloc)?, Route::Up(_))
+            && matches!(&Route::UpAny.copy(alloc)?, Route::UpAny)
+            && matches!(&Route::Root.copy(alloc)?, Route::Root)
+            && matches!(&Route::Leaf.copy(alloc)?, Route::Leaf),
+    )
+}
+
 #[test]
 fn every_form_of_route_is_copied(rt: HostRuntime) -> Result<(), Fail> {
     let alloc = rt.alloc();
-    let ty = TypeId(1);
-    let truth = Route::IsBool(Items::from_slice(alloc, b"b")?, true);
-    assert!(rt; matches!(&truth.copy(alloc)?, Route::IsBool(_, true)));
-    let variant = Route::IsVariant(VariantId { ty, index: 2 });
-    assert!(rt;
-        matches!(
-            &variant.copy(alloc)?,
-            Route::IsVariant(VariantId { index: 2, .. })
-        )
-    );
-    assert!(rt; matches!(&Route::IsType(ty).copy(alloc)?, Route::IsType(TypeId(1))));
-    let up = Route::Up(Items::from_slice(alloc, b"next")?);
-    assert!(rt; matches!(&up.copy(alloc)?, Route::Up(_)));
-    assert!(rt; matches!(&Route::UpAny.copy(alloc)?, Route::UpAny));
-    assert!(rt; matches!(&Route::Root.copy(alloc)?, Route::Root));
-    assert!(rt; matches!(&Route::Leaf.copy(alloc)?, Route::Leaf));
+    assert!(rt; tests_are_copied(alloc)?);
+    assert!(rt; steps_are_copied(alloc)?);
     Ok(())
 }

@@ -1,4 +1,0 @@
-mod AssertionForms
-mod CodeForms
-mod CondForms
-mod RouteForms

@@ -1,2 +1,0 @@
-pub mod HeldSorts
-pub mod Tails
