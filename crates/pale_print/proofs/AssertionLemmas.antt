@@ -17,9 +17,10 @@ use Rattle.pale_syntax.specs.declared.tree.assertion.Assertion.TheVariants.{roll
 use Rattle.pale_syntax.specs.declared.tree.assertion.Assertion.TheVariants.{rolls-Imp, rolls-Iff, rolls-Quantified}
 use Rattle.pale_syntax.specs.declared.tree.assertion.Assertion.TheOpen.{Assertion-F}
 use Rattle.pale_syntax.specs.declared.tree.assertion.Assertion.TheFolds.{map-Assertion, fold-roll-Assertion}
-use Rattle.pale_print.specs.Tokens.{Tokens, ◌>>◌, sign, word, path_tokens}
+use Rattle.pale_print.specs.Tokens.{◌>>◌, sign, word, path_tokens}
 use Rattle.pale_print.specs.AssertionTokens.{Followed, Operand, grouped, is_followed, operands, chained, implied, quantified, assertion_node, assertion_tokens}
-use Rattle.pale_print.specs.Writing.{compared, variant_tested, opening, closing, inside, goes_on, related, walked, used, quantifier_tokens, assertion_operands}
+use Rattle.pale_print.specs.Writing.{compared, variant_tested, opening, closing, inside, goes_on, related, walked, used}
+use Rattle.pale_print.specs.Writing.{assertion_operands, assertion_chain, denied, implication, governed}
 
 of_form : (x : Assertion-F Assertion) → assertion_tokens (roll-Assertion x) ≡ assertion_node (map-Assertion Assertion Operand assertion_tokens x)
 unfolding assertion_tokens
@@ -62,7 +63,7 @@ pub of-Use : (predicate : Name) (arguments : List Path) → assertion_tokens (as
 of-Use predicate arguments = form _ (Assertion-F.Use predicate arguments) (sym (rolls-Use predicate arguments))
 
 pub of-Not : (place : Pos) (inner : Assertion) →
-    assertion_tokens (assertion.Not place inner) ≡ (λ asked followed after. sign mark.Tilde >> assertion_tokens inner 4 followed >> after)
+    assertion_tokens (assertion.Not place inner) ≡ (λ asked. denied inner)
 of-Not place inner = form _ (Assertion-F.Not place inner) (sym (rolls-Not place inner))
 
 -- ---- groups and chains
@@ -88,15 +89,9 @@ same_operands mark asked (one ∷ others) followed after =
     ∙ ap (λ rest. sign mark >> assertion_tokens one asked (goes_on (length others) followed) >> rest)
     (same_operands mark asked others followed after)
 
--- a chain, in parentheses where they are needed, which an operator follows or not
-abbrev pub chain : Bool → Mark → ℕ → Assertion → List Assertion → Bool → Tokens
-chain needed mark asked first others followed after =
-    opening needed >> assertion_tokens first asked (goes_on (length others) (inside needed followed)) >>
-    assertion_operands mark asked others (inside needed followed) >> closing needed >> after
-
 same_chain : (needed : Bool) (mark : Mark) (asked : ℕ) (first : Assertion) (others : List Assertion) (followed : Bool) (after : List TokenKind) →
     grouped needed (chained mark asked (assertion_tokens first) (map assertion_tokens others)) followed after
-    ≡ chain needed mark asked first others followed after
+    ≡ assertion_chain needed mark asked first others followed after
 same_chain needed mark asked first others followed after =
     between needed (chained mark asked (assertion_tokens first) (map assertion_tokens others)) followed after
     ∙ ap
@@ -107,39 +102,28 @@ same_chain needed mark asked first others followed after =
     (same_operands mark asked others (inside needed followed) (closing needed after))
 
 pub of-And : (first : Assertion) (others : List Assertion) →
-    assertion_tokens (assertion.And first others) ≡ (λ asked. chain (nat_lt 3 asked) mark.Ampersand 4 first others)
+    assertion_tokens (assertion.And first others) ≡ (λ asked. assertion_chain (nat_lt 3 asked) mark.Ampersand 4 first others)
 of-And first others =
     form _ (Assertion-F.And first others) (sym (rolls-And first others))
     ∙ (λ i asked followed after. same_chain (nat_lt 3 asked) mark.Ampersand 4 first others followed after i)
 
 pub of-Or : (first : Assertion) (others : List Assertion) →
-    assertion_tokens (assertion.Or first others) ≡ (λ asked. chain (nat_lt 2 asked) mark.Bar 3 first others)
+    assertion_tokens (assertion.Or first others) ≡ (λ asked. assertion_chain (nat_lt 2 asked) mark.Bar 3 first others)
 of-Or first others =
     form _ (Assertion-F.Or first others) (sym (rolls-Or first others))
     ∙ (λ i asked followed after. same_chain (nat_lt 2 asked) mark.Bar 3 first others followed after i)
 
 pub of-Iff : (first : Assertion) (others : List Assertion) →
-    assertion_tokens (assertion.Iff first others) ≡ (λ asked. chain (nat_lt 0 asked) mark.Equivalent 1 first others)
+    assertion_tokens (assertion.Iff first others) ≡ (λ asked. assertion_chain (nat_lt 0 asked) mark.Equivalent 1 first others)
 of-Iff first others =
     form _ (Assertion-F.Iff first others) (sym (rolls-Iff first others))
     ∙ (λ i asked followed after. same_chain (nat_lt 0 asked) mark.Equivalent 1 first others followed after i)
-
--- `a => b`, in parentheses where they are needed
-abbrev pub implication : Bool → Assertion → Assertion → Bool → Tokens
-implication needed left right followed after =
-    opening needed >> assertion_tokens left 2 true >> sign mark.Implies >> assertion_tokens right 1 (inside needed followed) >>
-    closing needed >> after
 
 pub of-Imp : (left : Assertion) (place : Pos) (right : Assertion) →
     assertion_tokens (assertion.Imp left place right) ≡ (λ asked. implication (nat_lt 1 asked) left right)
 of-Imp left place right =
     form _ (Assertion-F.Imp left place right) (sym (rolls-Imp left place right))
     ∙ (λ i asked followed after. between (nat_lt 1 asked) (implied (assertion_tokens left) (assertion_tokens right)) followed after i)
-
--- a quantifier, in parentheses where an operator follows
-abbrev pub governed : Quantifier → Assertion → Bool → Tokens
-governed q inner followed after =
-    opening followed >> quantifier_tokens q >> assertion_tokens inner 0 false >> closing followed >> after
 
 same_governed : (q : Quantifier) (inner : Assertion) (followed : Bool) (after : List TokenKind) →
     grouped followed (quantified q (assertion_tokens inner)) followed after ≡ governed q inner followed after
@@ -152,15 +136,11 @@ of-Quantified q inner =
 
 -- ---- the same at parts that are lent
 
-pub at-Not : (a inner lent : Assertion) (place : Pos) → a ≡ assertion.Not place inner → lent ≡ inner →
-    assertion_tokens a ≡ (λ asked followed after. sign mark.Tilde >> assertion_tokens lent 4 followed >> after)
-at-Not a inner lent place is one = ap assertion_tokens (is ∙ (λ i. assertion.Not place (sym one i))) ∙ of-Not place lent
-
 -- a chain whose parts and flags were computed one by one
 lent_chain : (needed : Bool) (mark : Mark) (asked : ℕ) (first lent : Assertion) (others slice : List Assertion) (followed last before : Bool) (count : ℕ) →
     lent ≡ first → slice ≡ others → last ≡ inside needed followed → count ≡ length others → before ≡ goes_on count last →
     (after : List TokenKind) →
-    chain needed mark asked first others followed after
+    assertion_chain needed mark asked first others followed after
     ≡ (opening needed >> assertion_tokens lent asked before >> assertion_operands mark asked slice last >> closing needed >> after)
 lent_chain needed mark asked first lent others slice followed last before count one rest last_is count_is before_is after =
     let flag : before ≡ goes_on (length others) (inside needed followed) = before_is ∙ (λ i. goes_on (count_is i) (last_is i)) in
@@ -174,7 +154,7 @@ pub at-And : (a first lent : Assertion) (others slice : List Assertion) (asked :
     ≡ (opening needed >> assertion_tokens lent 4 before >> assertion_operands mark.Ampersand 4 slice last >> closing needed >> after)
 at-And a first lent others slice asked needed followed last before count is one rest need last_is count_is before_is after =
     (λ i. (ap assertion_tokens is ∙ of-And first others) i asked followed after)
-    ∙ (λ i. chain (sym need i) mark.Ampersand 4 first others followed after)
+    ∙ (λ i. assertion_chain (sym need i) mark.Ampersand 4 first others followed after)
     ∙ lent_chain needed mark.Ampersand 4 first lent others slice followed last before count one rest last_is count_is before_is after
 
 pub at-Or : (a first lent : Assertion) (others slice : List Assertion) (asked : ℕ) (needed followed last before : Bool) (count : ℕ) →
@@ -184,7 +164,7 @@ pub at-Or : (a first lent : Assertion) (others slice : List Assertion) (asked : 
     ≡ (opening needed >> assertion_tokens lent 3 before >> assertion_operands mark.Bar 3 slice last >> closing needed >> after)
 at-Or a first lent others slice asked needed followed last before count is one rest need last_is count_is before_is after =
     (λ i. (ap assertion_tokens is ∙ of-Or first others) i asked followed after)
-    ∙ (λ i. chain (sym need i) mark.Bar 3 first others followed after)
+    ∙ (λ i. assertion_chain (sym need i) mark.Bar 3 first others followed after)
     ∙ lent_chain needed mark.Bar 3 first lent others slice followed last before count one rest last_is count_is before_is after
 
 pub at-Iff : (a first lent : Assertion) (others slice : List Assertion) (asked : ℕ) (needed followed last before : Bool) (count : ℕ) →
@@ -194,7 +174,7 @@ pub at-Iff : (a first lent : Assertion) (others slice : List Assertion) (asked :
     ≡ (opening needed >> assertion_tokens lent 1 before >> assertion_operands mark.Equivalent 1 slice last >> closing needed >> after)
 at-Iff a first lent others slice asked needed followed last before count is one rest need last_is count_is before_is after =
     (λ i. (ap assertion_tokens is ∙ of-Iff first others) i asked followed after)
-    ∙ (λ i. chain (sym need i) mark.Equivalent 1 first others followed after)
+    ∙ (λ i. assertion_chain (sym need i) mark.Equivalent 1 first others followed after)
     ∙ lent_chain needed mark.Equivalent 1 first lent others slice followed last before count one rest last_is count_is before_is after
 
 pub at-Imp : (a left lent right given : Assertion) (place : Pos) (asked : ℕ) (needed followed last : Bool) →
@@ -208,9 +188,11 @@ at-Imp a left lent right given place asked needed followed last is one other nee
     ∙ (λ i. opening needed >> assertion_tokens (sym one i) 2 true >> sign mark.Implies >>
     assertion_tokens (sym other i) 1 (sym last_is i) >> closing needed >> after)
 
-pub at-Quantified : (a inner lent : Assertion) (q : Quantifier) → a ≡ assertion.Quantified q inner → lent ≡ inner →
-    assertion_tokens a ≡ (λ asked. governed q lent)
-at-Quantified a inner lent q is one = ap assertion_tokens (is ∙ (λ i. assertion.Quantified q (sym one i))) ∙ of-Quantified q lent
+pub at-Not : (a inner : Assertion) (place : Pos) → a ≡ assertion.Not place inner → assertion_tokens a ≡ (λ asked. denied inner)
+at-Not a inner place is = ap assertion_tokens is ∙ of-Not place inner
+
+pub at-Quantified : (a inner : Assertion) (q : Quantifier) → a ≡ assertion.Quantified q inner → assertion_tokens a ≡ (λ asked. governed q inner)
+at-Quantified a inner q is = ap assertion_tokens is ∙ of-Quantified q inner
 
 -- each form
 pub ruleset assertion_forms =

@@ -13,10 +13,10 @@ use Rattle.pale_syntax.specs.declared.tree.condition.Condition.TheVariants.{roll
 use Rattle.pale_syntax.specs.declared.tree.condition.Condition.TheVariants.{rolls-Or}
 use Rattle.pale_syntax.specs.declared.tree.condition.Condition.TheOpen.{Condition-F}
 use Rattle.pale_syntax.specs.declared.tree.condition.Condition.TheFolds.{map-Condition, fold-roll-Condition}
-use Rattle.pale_print.specs.Tokens.{Tokens, ◌>>◌, sign, word, each_behind, term_tokens}
+use Rattle.pale_print.specs.Tokens.{◌>>◌, sign, word, each_behind, term_tokens}
 use Rattle.pale_print.specs.RouteTokens.{Placed, grouped, chained}
 use Rattle.pale_print.specs.ConditionTokens.{condition_node, condition_tokens}
-use Rattle.pale_print.specs.Writing.{compared, variant_tested, opening, closing, condition_operands}
+use Rattle.pale_print.specs.Writing.{compared, variant_tested, opening, closing, condition_operands, condition_chain}
 use Rattle.pale_print.proofs.RouteLemmas.{between}
 
 of_form : (x : Condition-F Condition) → condition_tokens (roll-Condition x) ≡ condition_node (map-Condition Condition Placed condition_tokens x)
@@ -56,24 +56,19 @@ same_operands mark asked [] after = refl
 same_operands mark asked (one ∷ others) after =
     ap (λ rest. sign mark >> condition_tokens one asked >> rest) (same_operands mark asked others after)
 
--- a chain, in parentheses where they are needed
-abbrev pub chain : Bool → Mark → ℕ → Condition → List Condition → Tokens
-chain needed mark asked first others after =
-    opening needed >> condition_tokens first asked >> condition_operands mark asked others >> closing needed >> after
-
 same_chain : (needed : Bool) (mark : Mark) (asked : ℕ) (first : Condition) (others : List Condition) (after : List TokenKind) →
-    grouped needed (chained mark asked (condition_tokens first) (map condition_tokens others)) after ≡ chain needed mark asked first others after
+    grouped needed (chained mark asked (condition_tokens first) (map condition_tokens others)) after ≡ condition_chain needed mark asked first others after
 same_chain needed mark asked first others after =
     between needed (chained mark asked (condition_tokens first) (map condition_tokens others)) after
     ∙ ap (λ rest. opening needed (condition_tokens first asked rest)) (same_operands mark asked others (closing needed after))
 
 pub of-And : (first : Condition) (others : List Condition) →
-    condition_tokens (condition.And first others) ≡ (λ asked. chain (nat_lt 1 asked) mark.AndAlso 2 first others)
+    condition_tokens (condition.And first others) ≡ (λ asked. condition_chain (nat_lt 1 asked) mark.AndAlso 2 first others)
 of-And first others =
     form _ (Condition-F.And first others) (sym (rolls-And first others)) ∙ (λ i asked after. same_chain (nat_lt 1 asked) mark.AndAlso 2 first others after i)
 
 pub of-Or : (first : Condition) (others : List Condition) →
-    condition_tokens (condition.Or first others) ≡ (λ asked. chain (nat_lt 0 asked) mark.OrElse 1 first others)
+    condition_tokens (condition.Or first others) ≡ (λ asked. condition_chain (nat_lt 0 asked) mark.OrElse 1 first others)
 of-Or first others =
     form _ (Condition-F.Or first others) (sym (rolls-Or first others)) ∙ (λ i asked after. same_chain (nat_lt 0 asked) mark.OrElse 1 first others after i)
 
@@ -84,16 +79,16 @@ pub at-Not : (c inner lent : Condition) (place : Pos) → c ≡ condition.Not pl
 at-Not c inner lent place is one = ap condition_tokens (is ∙ (λ i. condition.Not place (sym one i))) ∙ of-Not place lent
 
 pub at-And : (c first lent : Condition) (others slice : List Condition) (asked : ℕ) (needed : Bool) → c ≡ condition.And first others → lent ≡ first →
-    slice ≡ others → needed ≡ nat_lt 1 asked → condition_tokens c asked ≡ chain needed mark.AndAlso 2 lent slice
+    slice ≡ others → needed ≡ nat_lt 1 asked → condition_tokens c asked ≡ condition_chain needed mark.AndAlso 2 lent slice
 at-And c first lent others slice asked needed is one rest need =
     (λ i. (ap condition_tokens (is ∙ (λ i. condition.And (sym one i) (sym rest i))) ∙ of-And lent slice) i asked)
-    ∙ (λ i. chain (sym need i) mark.AndAlso 2 lent slice)
+    ∙ (λ i. condition_chain (sym need i) mark.AndAlso 2 lent slice)
 
 pub at-Or : (c first lent : Condition) (others slice : List Condition) (asked : ℕ) (needed : Bool) → c ≡ condition.Or first others → lent ≡ first →
-    slice ≡ others → needed ≡ nat_lt 0 asked → condition_tokens c asked ≡ chain needed mark.OrElse 1 lent slice
+    slice ≡ others → needed ≡ nat_lt 0 asked → condition_tokens c asked ≡ condition_chain needed mark.OrElse 1 lent slice
 at-Or c first lent others slice asked needed is one rest need =
     (λ i. (ap condition_tokens (is ∙ (λ i. condition.Or (sym one i) (sym rest i))) ∙ of-Or lent slice) i asked)
-    ∙ (λ i. chain (sym need i) mark.OrElse 1 lent slice)
+    ∙ (λ i. condition_chain (sym need i) mark.OrElse 1 lent slice)
 
 -- each form
 pub ruleset condition_forms = (of-True, of-False, of-Truth, of-Same, of-Differ, of-Is, of-Not, of-And, of-Or)

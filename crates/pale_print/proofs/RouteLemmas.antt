@@ -14,7 +14,7 @@ use Rattle.pale_syntax.specs.declared.tree.route.Route.TheOpen.{Route-F}
 use Rattle.pale_syntax.specs.declared.tree.route.Route.TheFolds.{map-Route, fold-roll-Route}
 use Rattle.pale_print.specs.Tokens.{Tokens, ◌>>◌, sign, word, each_behind, typed_tokens, name_tokens}
 use Rattle.pale_print.specs.RouteTokens.{Placed, grouped, chained, stars, bool_test, route_node, route_tokens}
-use Rattle.pale_print.specs.Writing.{opening, closing, route_operands}
+use Rattle.pale_print.specs.Writing.{opening, closing, route_operands, route_chain, repeated}
 
 of_form : (x : Route-F Route) → route_tokens (roll-Route x) ≡ route_node (map-Route Route Placed route_tokens x)
 unfolding route_tokens
@@ -60,30 +60,25 @@ pub between : (needed : Bool) (inner : Tokens) (after : List TokenKind) →
 between true inner after = refl
 between false inner after = refl
 
--- a chain, in parentheses where they are needed
-abbrev pub chain : Bool → Mark → ℕ → Route → List Route → Tokens
-chain needed mark asked first others after =
-    opening needed >> route_tokens first asked >> route_operands mark asked others >> closing needed >> after
-
 same_chain : (needed : Bool) (mark : Mark) (asked : ℕ) (first : Route) (others : List Route) (after : List TokenKind) →
-    grouped needed (chained mark asked (route_tokens first) (map route_tokens others)) after ≡ chain needed mark asked first others after
+    grouped needed (chained mark asked (route_tokens first) (map route_tokens others)) after ≡ route_chain needed mark asked first others after
 same_chain needed mark asked first others after =
     between needed (chained mark asked (route_tokens first) (map route_tokens others)) after
     ∙ ap (λ rest. opening needed (route_tokens first asked rest)) (same_operands mark asked others (closing needed after))
 
 pub of-Then : (first : Route) (others : List Route) →
-    route_tokens (Then first others) ≡ (λ asked. chain (nat_lt 1 asked) mark.Dot 2 first others)
+    route_tokens (Then first others) ≡ (λ asked. route_chain (nat_lt 1 asked) mark.Dot 2 first others)
 of-Then first others =
     form _ (Route-F.Then first others) (sym (rolls-Then first others)) ∙ (λ i asked after. same_chain (nat_lt 1 asked) mark.Dot 2 first others after i)
 
 pub of-Or : (first : Route) (others : List Route) →
-    route_tokens (Or first others) ≡ (λ asked. chain (nat_lt 0 asked) mark.Plus 1 first others)
+    route_tokens (Or first others) ≡ (λ asked. route_chain (nat_lt 0 asked) mark.Plus 1 first others)
 of-Or first others =
     form _ (Route-F.Or first others) (sym (rolls-Or first others)) ∙ (λ i asked after. same_chain (nat_lt 0 asked) mark.Plus 1 first others after i)
 
 pub of-Star : (inner : Route) (places : List Pos) →
     route_tokens (Star inner places)
-    ≡ (λ asked after. opening (nat_lt 2 asked) >> route_tokens inner 3 >> stars places >> closing (nat_lt 2 asked) >> after)
+    ≡ (λ asked. repeated (nat_lt 2 asked) inner places)
 of-Star inner places =
     form _ (Route-F.Star inner places) (sym (rolls-Star inner places))
     ∙ (λ i asked after. between (nat_lt 2 asked) (λ then. route_tokens inner 3 (stars places then)) after i)
@@ -91,21 +86,14 @@ of-Star inner places =
 -- the same at parts that are lent
 
 pub at-Then : (r first lent : Route) (others slice : List Route) (asked : ℕ) (needed : Bool) → r ≡ Then first others → lent ≡ first →
-    slice ≡ others → needed ≡ nat_lt 1 asked → route_tokens r asked ≡ chain needed mark.Dot 2 lent slice
+    slice ≡ others → needed ≡ nat_lt 1 asked → route_tokens r asked ≡ route_chain needed mark.Dot 2 lent slice
 at-Then r first lent others slice asked needed is one rest need =
-    (λ i. (ap route_tokens (is ∙ (λ i. Then (sym one i) (sym rest i))) ∙ of-Then lent slice) i asked) ∙ (λ i. chain (sym need i) mark.Dot 2 lent slice)
+    (λ i. (ap route_tokens (is ∙ (λ i. Then (sym one i) (sym rest i))) ∙ of-Then lent slice) i asked) ∙ (λ i. route_chain (sym need i) mark.Dot 2 lent slice)
 
 pub at-Or : (r first lent : Route) (others slice : List Route) (asked : ℕ) (needed : Bool) → r ≡ Or first others → lent ≡ first →
-    slice ≡ others → needed ≡ nat_lt 0 asked → route_tokens r asked ≡ chain needed mark.Plus 1 lent slice
+    slice ≡ others → needed ≡ nat_lt 0 asked → route_tokens r asked ≡ route_chain needed mark.Plus 1 lent slice
 at-Or r first lent others slice asked needed is one rest need =
-    (λ i. (ap route_tokens (is ∙ (λ i. Or (sym one i) (sym rest i))) ∙ of-Or lent slice) i asked) ∙ (λ i. chain (sym need i) mark.Plus 1 lent slice)
-
-pub at-Star : (r inner lent : Route) (places slice : List Pos) (asked : ℕ) (needed : Bool) → r ≡ Star inner places → lent ≡ inner →
-    slice ≡ places → needed ≡ nat_lt 2 asked →
-    route_tokens r asked ≡ (λ after. opening needed >> route_tokens lent 3 >> stars slice >> closing needed >> after)
-at-Star r inner lent places slice asked needed is one rest need =
-    (λ i. (ap route_tokens (is ∙ (λ i. Star (sym one i) (sym rest i))) ∙ of-Star lent slice) i asked)
-    ∙ (λ i after. opening (sym need i) >> route_tokens lent 3 >> stars slice >> closing (sym need i) >> after)
+    (λ i. (ap route_tokens (is ∙ (λ i. Or (sym one i) (sym rest i))) ∙ of-Or lent slice) i asked) ∙ (λ i. route_chain (sym need i) mark.Plus 1 lent slice)
 
 -- each form
 pub ruleset route_forms = (of-Down, of-Up, of-UpAny, of-Root, of-Leaf, of-IsType, of-IsVariant, of-IsBool, of-Then, of-Or, of-Star)

@@ -1,6 +1,7 @@
 -- What the steps of the printer do to its text, in words for what one step writes. Nothing outside of the crate cites this
 -- page.
-use Rattle.std.specs.Prelude.{◌≡◌, ℕ, zero, suc, Bool, true, false, List, [], ◌∷◌, ◌++◌, length, codes}
+use Rattle.std.specs.Prelude.{◌≡◌, ℕ, zero, suc, Bool, true, false, List, [], ◌∷◌, ◌++◌, length, Option, Some, option_map, codes}
+use Rattle.pale_text.specs.declared.place.Pos.{Pos}
 use Rattle.pale_text.specs.declared.token.Mark.{Mark}
 use Rattle.pale_text.specs.declared.token.Mark.TheVariants as mark
 use Rattle.pale_text.specs.declared.token.TokenKind.{TokenKind}
@@ -19,16 +20,21 @@ use Rattle.pale_syntax.specs.declared.tree.statement.Call.{Call}
 use Rattle.pale_syntax.specs.declared.tree.statement.Statement.{Statement}
 use Rattle.pale_syntax.specs.declared.tree.statement.Value.{Value}
 use Rattle.pale_print.specs.Tokens.{Tokens, ◌>>◌, nothing, sign, word, each, separated, name_tokens, path_tokens, term_tokens}
-use Rattle.pale_print.specs.RouteTokens.{bool_test, route_tokens}
+use Rattle.pale_print.specs.RouteTokens.{stars, bool_test, route_tokens}
 use Rattle.pale_print.specs.ConditionTokens.{condition_tokens}
 use Rattle.pale_print.specs.AssertionTokens.{quantifier_word, set_word, assertion_tokens, bracketed_tokens}
 use Rattle.pale_print.specs.StatementTokens.{argument_tokens, value_tokens, call_result_tokens, logic_argument_tokens, statement_tokens}
 use Rattle.pale_print.specs.DeclarationTokens.{predicate_parameter_tokens, parameters_tokens, results_tokens, logics_tokens, local_tokens}
 use Rattle.pale_print.specs.Spelling.{spelled}
 
--- these tokens were written behind the text `before`, which made it `now`: so it is whatever comes after them
-abbrev pub Writes : Tokens → List ℕ → List ℕ → Type 0
-Writes tokens before now = (after : List TokenKind) → now ++ spelled after ≡ before ++ spelled (tokens >> after)
+-- the text that was begun and then these tokens are the whole text, and memory didn't run out so far
+unfoldable pub Ends : Option (List ℕ) → List TokenKind → List ℕ → Type 0
+Ends begun after whole = option_map (λ text. text ++ spelled after) begun ≡ Some whole
+
+-- these tokens were written: whatever is to come after them, the whole text is the one in which they and that come after what
+-- stood before
+abbrev pub Writes : Tokens → Option (List ℕ) → Option (List ℕ) → Type 0
+Writes tokens before now = (after : List TokenKind) (whole : List ℕ) → Ends now after whole → Ends before (tokens >> after) whole
 
 -- ---- names and terms
 
@@ -80,7 +86,26 @@ assertion_operands mark asked [] followed after = after
 assertion_operands mark asked (one ∷ others) followed after =
     sign mark >> assertion_tokens one asked (goes_on (length others) followed) >> assertion_operands mark asked others followed >> after
 
+-- a chain, in parentheses where they are needed
+abbrev pub route_chain : Bool → Mark → ℕ → Route → List Route → Tokens
+route_chain needed mark asked first others after =
+    opening needed >> route_tokens first asked >> route_operands mark asked others >> closing needed >> after
+
+abbrev pub condition_chain : Bool → Mark → ℕ → Condition → List Condition → Tokens
+condition_chain needed mark asked first others after =
+    opening needed >> condition_tokens first asked >> condition_operands mark asked others >> closing needed >> after
+
+-- the same of assertions, and an operator follows the chain or not
+abbrev pub assertion_chain : Bool → Mark → ℕ → Assertion → List Assertion → Bool → Tokens
+assertion_chain needed mark asked first others followed after =
+    opening needed >> assertion_tokens first asked (goes_on (length others) (inside needed followed)) >>
+    assertion_operands mark asked others (inside needed followed) >> closing needed >> after
+
 -- ---- routes and assertions
+
+-- `R *`, in parentheses where they are needed
+abbrev pub repeated : Bool → Route → List Pos → Tokens
+repeated needed inner places after = opening needed >> route_tokens inner 3 >> stars places >> closing needed >> after
 
 -- `? f` or `! f`
 abbrev pub bool_tested : Bool → Name → Tokens
@@ -107,6 +132,21 @@ quantifier_words q after = quantifier_word q.kind >> set_word q.of_sets >> after
 abbrev pub quantifier_tokens : Quantifier → Tokens
 quantifier_tokens q after =
     quantifier_words q >> separated mark.Comma name_tokens q.names >> marked mark.Colon q.ty >> sign mark.Colon >> after
+
+-- `~ a`, which an operator follows or not
+abbrev pub denied : Assertion → Bool → Tokens
+denied inner followed after = sign mark.Tilde >> assertion_tokens inner 4 followed >> after
+
+-- `a => b`, in parentheses where they are needed
+abbrev pub implication : Bool → Assertion → Assertion → Bool → Tokens
+implication needed left right followed after =
+    opening needed >> assertion_tokens left 2 true >> sign mark.Implies >> assertion_tokens right 1 (inside needed followed) >>
+    closing needed >> after
+
+-- a quantifier and what it governs, in parentheses where an operator follows
+abbrev pub governed : Quantifier → Assertion → Bool → Tokens
+governed q inner followed after =
+    opening followed >> quantifier_tokens q >> assertion_tokens inner 0 false >> closing followed >> after
 
 -- ---- statements
 

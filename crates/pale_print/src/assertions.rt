@@ -1,10 +1,11 @@
 //! Assertions. One that binds less than its place asks is in parentheses, and a quantifier where an operator follows it,
 //! which its body would take.
 
-ghost use Rattle.std.specs.Prelude.{◌≡◌, OnOk, length};
+ghost use Rattle.std.specs.Prelude.{◌≡◌, length};
 ghost use Rattle.pale_print.specs.AssertionTokens.{assertion_tokens, bracketed_tokens};
 ghost use Rattle.pale_print.specs.Tightness.{assertion_tightness};
-ghost use Rattle.pale_print.specs.Writing.{Writes, goes_on, inside, related, walked, used, quantifier_words, quantifier_tokens, assertion_operands};
+ghost use Rattle.pale_print.specs.Writing.{Writes, goes_on, inside, related, walked, used, quantifier_words, quantifier_tokens};
+ghost use Rattle.pale_print.specs.Writing.{assertion_operands, governed, denied};
 
 use crate::names::{
     push_compared, push_marked, push_name, push_names, push_path, push_paths, push_term,
@@ -15,7 +16,8 @@ use crate::tightness::{AssertionTightness, RouteTightness};
 use crate::tokens::{close_group, open_group, push_mark, push_word};
 use pale_syntax::{Assertion, Bracketed, Name, Path, Quantifier, QuantifierKind, Route, Term};
 use pale_text::Mark;
-use std::alloc::AllocError;
+use plain_data::Boxed;
+use plain_writer::Writer;
 
 /// Whether an operator follows an operand behind which so many others of its chain stand.
 fn goes_on(others: usize, followed: bool) -> bool
@@ -32,89 +34,112 @@ fn inside(group: bool, followed: bool) -> bool
 }
 
 /// `t in S` or `t sub S`
-fn push_related(text: &mut Vec<u8>, term: &Term, word: &[u8], set: &Name) -> Result<(), AllocError>
-    ensures { OnOk result (Writes (related term.now word.now set.now) text.old.items text.new.items) }
+fn push_related(text: &mut Writer, term: &Term, word: &[u8], set: &Name)
+    ensures { Writes (related term.now word.now set.now) text.old text.new }
 {
-    push_term(text, term)?;
-    push_word(text, word)?;
+    push_term(text, term);
+    push_word(text, word);
     push_name(text, set)
 }
 
 /// `t < R > u`
-fn push_walk(text: &mut Vec<u8>, from: &Term, route: &Route, to: &Term) -> Result<(), AllocError>
-    ensures { OnOk result (Writes (walked from.now route.now to.now) text.old.items text.new.items) }
+fn push_walk(text: &mut Writer, from: &Term, route: &Route, to: &Term)
+    ensures { Writes (walked from.now route.now to.now) text.old text.new }
 {
-    push_term(text, from)?;
-    push_mark(text, Mark::Less)?;
-    push_route(text, route, RouteTightness::Choice)?;
-    push_mark(text, Mark::Greater)?;
+    push_term(text, from);
+    push_mark(text, Mark::Less);
+    push_route(text, route, RouteTightness::Choice);
+    push_mark(text, Mark::Greater);
     push_term(text, to)
 }
 
 /// `p ( x , y . f )`
-fn push_use(text: &mut Vec<u8>, predicate: &Name, arguments: &[Path]) -> Result<(), AllocError>
-    ensures { OnOk result (Writes (used predicate.now arguments.now) text.old.items text.new.items) }
+fn push_use(text: &mut Writer, predicate: &Name, arguments: &[Path])
+    ensures { Writes (used predicate.now arguments.now) text.old text.new }
 {
-    push_name(text, predicate)?;
-    push_mark(text, Mark::LeftParen)?;
-    push_paths(text, arguments)?;
+    push_name(text, predicate);
+    push_mark(text, Mark::LeftParen);
+    push_paths(text, arguments);
     push_mark(text, Mark::RightParen)
 }
 
 /// `ex`, `all`, `ex set` or `all set`
-fn push_quantifier_words(text: &mut Vec<u8>, quantifier: &Quantifier) -> Result<(), AllocError>
-    ensures { OnOk result (Writes (quantifier_words quantifier.now) text.old.items text.new.items) }
+fn push_quantifier_words(text: &mut Writer, quantifier: &Quantifier)
+    ensures { Writes (quantifier_words quantifier.now) text.old text.new }
 {
     match quantifier.kind {
-        QuantifierKind::Ex => push_word(text, b"ex")?,
-        QuantifierKind::All => push_word(text, b"all")?,
+        QuantifierKind::Ex => push_word(text, b"ex"),
+        QuantifierKind::All => push_word(text, b"all"),
     }
     if quantifier.of_sets {
-        push_word(text, b"set")?;
+        push_word(text, b"set");
     }
-    Ok(())
 }
 
 /// A quantifier up to what it governs.
-fn push_quantifier(text: &mut Vec<u8>, quantifier: &Quantifier) -> Result<(), AllocError>
-    ensures { OnOk result (Writes (quantifier_tokens quantifier.now) text.old.items text.new.items) }
+fn push_quantifier(text: &mut Writer, quantifier: &Quantifier)
+    ensures { Writes (quantifier_tokens quantifier.now) text.old text.new }
 {
-    push_quantifier_words(text, quantifier)?;
-    push_names(text, quantifier.names.as_slice())?;
-    push_marked(text, Mark::Colon, &quantifier.ty)?;
+    push_quantifier_words(text, quantifier);
+    push_names(text, quantifier.names.as_slice());
+    push_marked(text, Mark::Colon, &quantifier.ty);
     push_mark(text, Mark::Colon)
 }
 
 /// Operands of a chain, each behind its operator.
 #[cycle(assertions)]
 fn push_operands(
-    text: &mut Vec<u8>,
+    text: &mut Writer,
     mark: Mark,
     asked: AssertionTightness,
     operands: &[Assertion],
     followed: bool,
-) -> Result<(), AllocError>
-    ensures { OnOk result (Writes (assertion_operands mark (assertion_tightness asked) operands.now followed) text.old.items text.new.items) }
+)
+    ensures { Writes (assertion_operands mark (assertion_tightness asked) operands.now followed) text.old text.new }
 {
     let mut left = operands.len();
     for operand in operands {
         left -= 1;
-        push_mark(text, mark)?;
-        push_assertion(text, operand, asked, goes_on(left, followed))?;
+        push_mark(text, mark);
+        push_assertion(text, operand, asked, goes_on(left, followed));
     }
-    Ok(())
+}
+
+/// A quantifier and what it governs, in parentheses where an operator follows.
+#[cycle(assertions)]
+fn push_governed(
+    text: &mut Writer,
+    quantifier: &Quantifier,
+    inner: &Boxed<Assertion>,
+    followed: bool,
+)
+    ensures { Writes (governed quantifier.now inner.now followed) text.old text.new }
+{
+    open_group(text, followed);
+    push_quantifier(text, quantifier);
+    push_assertion(text, inner.get(), AssertionTightness::Equivalence, false);
+    close_group(text, followed)
+}
+
+/// `~ a`
+#[cycle(assertions)]
+fn push_denied(text: &mut Writer, inner: &Boxed<Assertion>, followed: bool)
+    ensures { Writes (denied inner.now followed) text.old text.new }
+{
+    push_mark(text, Mark::Tilde);
+    push_assertion(text, inner.get(), AssertionTightness::Single, followed)
 }
 
 /// An assertion where its place asks so much, and where an operator follows or not.
 #[cycle(assertions)]
 #[tactic(auto, using(crate::proofs::AssertionLemmas::assertion_forms))]
 fn push_assertion(
-    text: &mut Vec<u8>,
+    text: &mut Writer,
     assertion: &Assertion,
     asked: AssertionTightness,
     followed: bool,
-) -> Result<(), AllocError>
-    ensures { OnOk result (Writes (assertion_tokens assertion.now (assertion_tightness asked) followed) text.old.items text.new.items) }
+)
+    ensures { Writes (assertion_tokens assertion.now (assertion_tightness asked) followed) text.old text.new }
 {
     match assertion {
         Assertion::True => push_word(text, b"true"),
@@ -127,99 +152,59 @@ fn push_assertion(
         Assertion::Walk(from, _, route, to) => push_walk(text, from, route, to),
         Assertion::Is(term, _, variant) => push_variant_test(text, term, variant),
         Assertion::Use(predicate, arguments) => push_use(text, predicate, arguments.as_slice()),
-        Assertion::Not(_, inner) => {
-            push_mark(text, Mark::Tilde)?;
-            push_assertion(text, inner.get(), AssertionTightness::Single, followed)
-        }
+        Assertion::Not(_, inner) => push_denied(text, inner, followed),
         Assertion::And(first, others) => {
-            let grouped = AssertionTightness::Conjunction.is_grouped_at(asked);
-            let last = inside(grouped, followed);
-            open_group(text, grouped)?;
-            push_assertion(
-                text,
-                first.get(),
-                AssertionTightness::Single,
-                goes_on(others.len(), last),
-            )?;
-            push_operands(
-                text,
-                Mark::Ampersand,
-                AssertionTightness::Single,
-                others.as_slice(),
-                last,
-            )?;
-            close_group(text, grouped)
+            let needed = AssertionTightness::Conjunction.is_grouped_at(asked);
+            let last = inside(needed, followed);
+            let operand = AssertionTightness::Single;
+            open_group(text, needed);
+            push_assertion(text, first.get(), operand, goes_on(others.len(), last));
+            push_operands(text, Mark::Ampersand, operand, others.as_slice(), last);
+            close_group(text, needed)
         }
         Assertion::Or(first, others) => {
-            let grouped = AssertionTightness::Disjunction.is_grouped_at(asked);
-            let last = inside(grouped, followed);
-            open_group(text, grouped)?;
-            push_assertion(
-                text,
-                first.get(),
-                AssertionTightness::Conjunction,
-                goes_on(others.len(), last),
-            )?;
-            push_operands(
-                text,
-                Mark::Bar,
-                AssertionTightness::Conjunction,
-                others.as_slice(),
-                last,
-            )?;
-            close_group(text, grouped)
+            let needed = AssertionTightness::Disjunction.is_grouped_at(asked);
+            let last = inside(needed, followed);
+            let operand = AssertionTightness::Conjunction;
+            open_group(text, needed);
+            push_assertion(text, first.get(), operand, goes_on(others.len(), last));
+            push_operands(text, Mark::Bar, operand, others.as_slice(), last);
+            close_group(text, needed)
         }
         Assertion::Imp(left, _, right) => {
-            let grouped = AssertionTightness::Implication.is_grouped_at(asked);
-            open_group(text, grouped)?;
-            push_assertion(text, left.get(), AssertionTightness::Disjunction, true)?;
-            push_mark(text, Mark::Implies)?;
-            push_assertion(
-                text,
-                right.get(),
-                AssertionTightness::Implication,
-                inside(grouped, followed),
-            )?;
-            close_group(text, grouped)
+            let needed = AssertionTightness::Implication.is_grouped_at(asked);
+            let last = inside(needed, followed);
+            open_group(text, needed);
+            push_assertion(text, left.get(), AssertionTightness::Disjunction, true);
+            push_mark(text, Mark::Implies);
+            push_assertion(text, right.get(), AssertionTightness::Implication, last);
+            close_group(text, needed)
         }
         Assertion::Iff(first, others) => {
-            let grouped = AssertionTightness::Equivalence.is_grouped_at(asked);
-            let last = inside(grouped, followed);
-            open_group(text, grouped)?;
-            push_assertion(
-                text,
-                first.get(),
-                AssertionTightness::Implication,
-                goes_on(others.len(), last),
-            )?;
-            push_operands(
-                text,
-                Mark::Equivalent,
-                AssertionTightness::Implication,
-                others.as_slice(),
-                last,
-            )?;
-            close_group(text, grouped)
+            let needed = AssertionTightness::Equivalence.is_grouped_at(asked);
+            let last = inside(needed, followed);
+            let operand = AssertionTightness::Implication;
+            open_group(text, needed);
+            push_assertion(text, first.get(), operand, goes_on(others.len(), last));
+            push_operands(text, Mark::Equivalent, operand, others.as_slice(), last);
+            close_group(text, needed)
         }
         Assertion::Quantified(quantifier, inner) => {
-            open_group(text, followed)?;
-            push_quantifier(text, quantifier)?;
-            push_assertion(text, inner.get(), AssertionTightness::Equivalence, false)?;
-            close_group(text, followed)
+            push_governed(text, quantifier, inner, followed)
         }
     }
 }
 
 /// `[ a ]`
-pub fn push_bracketed(text: &mut Vec<u8>, bracketed: &Bracketed) -> Result<(), AllocError>
-    ensures { OnOk result (Writes (bracketed_tokens bracketed.now) text.old.items text.new.items) }
+pub fn push_bracketed(text: &mut Writer, bracketed: &Bracketed)
+    ensures { Writes (bracketed_tokens bracketed.now) text.old text.new }
 {
-    push_mark(text, Mark::LeftBracket)?;
+    push_mark(text, Mark::LeftBracket);
     push_assertion(
         text,
         &bracketed.assertion,
         AssertionTightness::Equivalence,
         false,
-    )?;
+    );
     push_mark(text, Mark::RightBracket)
 }

@@ -1,6 +1,6 @@
 //! Conditions of code. One that binds less than its place asks is in parentheses.
 
-ghost use Rattle.std.specs.Prelude.{◌≡◌, OnOk};
+ghost use Rattle.std.specs.Prelude.{◌≡◌};
 ghost use Rattle.pale_print.specs.ConditionTokens.{condition_tokens};
 ghost use Rattle.pale_print.specs.Tightness.{condition_tightness};
 ghost use Rattle.pale_print.specs.Writing.{Writes, condition_operands};
@@ -10,34 +10,24 @@ use crate::tightness::ConditionTightness;
 use crate::tokens::{close_group, open_group, push_mark, push_word};
 use pale_syntax::Condition;
 use pale_text::Mark;
-use std::alloc::AllocError;
+use plain_writer::Writer;
 
 /// Operands of a chain, each behind its operator.
 #[cycle(conditions)]
-fn push_operands(
-    text: &mut Vec<u8>,
-    mark: Mark,
-    asked: ConditionTightness,
-    operands: &[Condition],
-) -> Result<(), AllocError>
-    ensures { OnOk result (Writes (condition_operands mark (condition_tightness asked) operands.now) text.old.items text.new.items) }
+fn push_operands(text: &mut Writer, mark: Mark, asked: ConditionTightness, operands: &[Condition])
+    ensures { Writes (condition_operands mark (condition_tightness asked) operands.now) text.old text.new }
 {
     for operand in operands {
-        push_mark(text, mark)?;
-        push_condition(text, operand, asked)?;
+        push_mark(text, mark);
+        push_condition(text, operand, asked);
     }
-    Ok(())
 }
 
 /// A condition where its place asks so much.
 #[cycle(conditions)]
 #[tactic(auto, using(crate::proofs::ConditionLemmas::condition_forms))]
-pub fn push_condition(
-    text: &mut Vec<u8>,
-    condition: &Condition,
-    asked: ConditionTightness,
-) -> Result<(), AllocError>
-    ensures { OnOk result (Writes (condition_tokens condition.now (condition_tightness asked)) text.old.items text.new.items) }
+pub fn push_condition(text: &mut Writer, condition: &Condition, asked: ConditionTightness)
+    ensures { Writes (condition_tokens condition.now (condition_tightness asked)) text.old text.new }
 {
     match condition {
         Condition::True(_) => push_word(text, b"true"),
@@ -47,32 +37,24 @@ pub fn push_condition(
         Condition::Differ(left, _, right) => push_compared(text, left, Mark::NotSame, right),
         Condition::Is(term, _, variant) => push_variant_test(text, term, variant),
         Condition::Not(_, inner) => {
-            push_mark(text, Mark::Bang)?;
+            push_mark(text, Mark::Bang);
             push_condition(text, inner.get(), ConditionTightness::Single)
         }
         Condition::And(first, others) => {
-            let grouped = ConditionTightness::Conjunction.is_grouped_at(asked);
-            open_group(text, grouped)?;
-            push_condition(text, first.get(), ConditionTightness::Single)?;
-            push_operands(
-                text,
-                Mark::AndAlso,
-                ConditionTightness::Single,
-                others.as_slice(),
-            )?;
-            close_group(text, grouped)
+            let needed = ConditionTightness::Conjunction.is_grouped_at(asked);
+            let operand = ConditionTightness::Single;
+            open_group(text, needed);
+            push_condition(text, first.get(), operand);
+            push_operands(text, Mark::AndAlso, operand, others.as_slice());
+            close_group(text, needed)
         }
         Condition::Or(first, others) => {
-            let grouped = ConditionTightness::Disjunction.is_grouped_at(asked);
-            open_group(text, grouped)?;
-            push_condition(text, first.get(), ConditionTightness::Conjunction)?;
-            push_operands(
-                text,
-                Mark::OrElse,
-                ConditionTightness::Conjunction,
-                others.as_slice(),
-            )?;
-            close_group(text, grouped)
+            let needed = ConditionTightness::Disjunction.is_grouped_at(asked);
+            let operand = ConditionTightness::Conjunction;
+            open_group(text, needed);
+            push_condition(text, first.get(), operand);
+            push_operands(text, Mark::OrElse, operand, others.as_slice());
+            close_group(text, needed)
         }
     }
 }

@@ -1,13 +1,13 @@
 //! Single tokens, each followed by one gap.
 
-ghost use Rattle.std.specs.Prelude.{◌≡◌, OnOk, codes};
+ghost use Rattle.std.specs.Prelude.{◌≡◌, codes};
 ghost use Rattle.pale_text.specs.declared.token.TokenKind.TheVariants as token_kind;
 ghost use Rattle.pale_print.specs.Spelling.{gap};
 ghost use Rattle.pale_print.specs.Tokens.{sign, word};
 ghost use Rattle.pale_print.specs.Writing.{Writes, opening, closing};
 
 use pale_text::Mark;
-use std::alloc::AllocError;
+use plain_writer::Writer;
 
 /// What stands behind a mark.
 fn gap_behind(mark: Mark) -> u8
@@ -20,41 +20,37 @@ fn gap_behind(mark: Mark) -> u8
 }
 
 /// A mark and its gap.
-#[tactic(auto, unfolding(crate::specs::Spelling::spelled))]
-pub fn push_mark(text: &mut Vec<u8>, mark: Mark) -> Result<(), AllocError>
-    ensures { OnOk result (Writes (sign mark) text.old.items text.new.items) }
+#[tactic(auto, unfolding(crate::specs::Writing::Ends, crate::specs::Spelling::spelled))]
+pub fn push_mark(text: &mut Writer, mark: Mark)
+    ensures { Writes (sign mark) text.old text.new }
 {
-    text.extend_from_slice(mark.bytes())?;
-    text.push(gap_behind(mark))?;
-    Ok(())
+    text.push_all(mark.bytes());
+    text.push(gap_behind(mark));
 }
 
 /// A name or a reserved word, and its gap.
-#[tactic(auto, unfolding(crate::specs::Spelling::spelled))]
-pub fn push_word(text: &mut Vec<u8>, letters: &[u8]) -> Result<(), AllocError>
-    ensures { OnOk result (Writes (word letters.now) text.old.items text.new.items) }
+#[tactic(auto, unfolding(crate::specs::Writing::Ends, crate::specs::Spelling::spelled))]
+pub fn push_word(text: &mut Writer, letters: &[u8])
+    ensures { Writes (word letters.now) text.old text.new }
 {
-    text.extend_from_slice(letters)?;
-    text.push(b' ')?;
-    Ok(())
+    text.push_all(letters);
+    text.push(b' ');
 }
 
 /// A left parenthesis, where one is needed.
-pub fn open_group(text: &mut Vec<u8>, needed: bool) -> Result<(), AllocError>
-    ensures { OnOk result (Writes (opening needed) text.old.items text.new.items) }
+pub fn open_group(text: &mut Writer, needed: bool)
+    ensures { Writes (opening needed) text.old text.new }
 {
     if needed {
-        push_mark(text, Mark::LeftParen)?;
+        push_mark(text, Mark::LeftParen);
     }
-    Ok(())
 }
 
 /// A right parenthesis, where one is needed.
-pub fn close_group(text: &mut Vec<u8>, needed: bool) -> Result<(), AllocError>
-    ensures { OnOk result (Writes (closing needed) text.old.items text.new.items) }
+pub fn close_group(text: &mut Writer, needed: bool)
+    ensures { Writes (closing needed) text.old text.new }
 {
     if needed {
-        push_mark(text, Mark::RightParen)?;
+        push_mark(text, Mark::RightParen);
     }
-    Ok(())
 }
