@@ -31,6 +31,7 @@ PAGES = (os.path.join(TOP, "README.md"), os.path.join(DOCS, "answers.md"), os.pa
 CRATE = os.path.join(TOP, "crates", "pale_gallery")
 NOTE = "Made by tools/make_gallery.py: not to be edited. The form stands in src/main.rt.\n"
 HEAD, ANSWER = "\n=== ", "\n==> "
+PIECE = r"\{\{[a-z][a-z -]*\}\}"
 
 # A text with the words of its call, and what is written for it with the status. The name says where it is from.
 Entry = namedtuple("Entry", "name words text output status")
@@ -104,6 +105,9 @@ def expanded(text, pieces):
 
     for name, piece in pieces.items():
         text = text.replace(name, piece)
+    unknown = re.search(PIECE, text)
+    if unknown:
+        raise Wrong(f"{unknown.group()}: no piece of that name stands before its use")
     return re.sub(r"\{\{(\d+)\*(.*?)\}\}(?!\})", times, text, flags=re.S)
 
 
@@ -114,7 +118,7 @@ def own_entries():
         pieces = {}
         for part in read(os.path.join(folder, file)).split(HEAD)[1:]:
             head, _, rest = part.partition("\n")
-            if re.fullmatch(r"\{\{[a-z][a-z -]*\}\}", head):
+            if re.fullmatch(PIECE, head):
                 pieces[head] = rest
                 continue
             text, found, answer = ("\n" + rest).partition(ANSWER)

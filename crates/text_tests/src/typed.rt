@@ -104,9 +104,6 @@ Cell(Path(Path { var: VarId(4), fields: Items { held: [FieldId { ty: TypeId(0), 
 index: 1 }] } })))), Do(10, Assign(Path { var: VarId(4), fields: Items { held: [] } \
 }, Cell(Null)))] } }";
 
-/// The texts and their trees.
-static ROWS: [(&[u8], &str); 2] = [(TEXT, TREE), (FORMS, FORMS_TREE)];
-
 fn read(alloc: Global, text: &[u8]) -> Result<Typed, TextStop>
     requires { length text.now < u32.MAX }
 {
@@ -130,7 +127,7 @@ fn is_tree(alloc: Global, text: &[u8], want: &str) -> Result<bool, TextStop> {
 
 #[test]
 fn each_form_is_typed(rt: HostRuntime) -> Result<(), Fail> {
-    for (text, tree) in ROWS {
+    for (text, tree) in [(TEXT, TREE), (FORMS, FORMS_TREE)] {
         assert!(rt; is_tree(rt.alloc(), text, tree)?, "{tree}");
     }
     Ok(())
