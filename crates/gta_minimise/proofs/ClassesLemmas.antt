@@ -12,10 +12,10 @@ use Rattle.gta_theory.specs.Numbered.{Below}
 use Rattle.gta_theory.proofs.AutomataLemmas.{IsClosed-reached, Accepts-named}
 use Rattle.gta_theory.proofs.MinimalLemmas.{IsMinimal-classes, IsStable-classes}
 use Rattle.gta_refine.specs.declared.form.Form.{Form}
-use Rattle.gta_refine.specs.declared.rounds.SpaceClasses.{SpaceClasses}
+use Rattle.gta_classes.specs.declared.part.SpaceClasses.{SpaceClasses}
 use Rattle.gta_refine.specs.Form as form
 use Rattle.gta_refine.specs.Refined.{part_at, is_reached_in, class_at, representative_at, classes_in, quotient_of, IsRefined}
-use Rattle.gta_refine.proofs.ChosenLemmas.{marked-inside}
+use Rattle.gta_classes.proofs.ChosenLemmas.{marked-inside}
 use Rattle.gta_minimise.proofs.ReadLemmas.{step-quotient}
 
 -- the automaton has the states and the steps of the automaton of classes

@@ -14,10 +14,10 @@ use Rattle.gta_theory.specs.Numbered.{Below}
 use Rattle.gta_theory.specs.Sizes.{AreSameBelow, LooksBelow}
 use Rattle.gta_refine.specs.declared.form.FormSpace.{FormSpace}
 use Rattle.gta_refine.specs.declared.form.Form.{Form}
-use Rattle.gta_refine.specs.declared.rounds.SpaceClasses.{SpaceClasses}
+use Rattle.gta_classes.specs.declared.part.SpaceClasses.{SpaceClasses}
 use Rattle.gta_refine.specs.Form.{cell_in, root_in, guide_of, states_of, IsForm}
 use Rattle.gta_refine.specs.Refined.{part_at, class_at, representative_at, classes_in, quotient_of, IsRefined}
-use Rattle.gta_refine.proofs.ChosenLemmas.{marked-inside}
+use Rattle.gta_classes.proofs.ChosenLemmas.{marked-inside}
 use Rattle.gta_refine.proofs.ReachLemmas.{step-at, many_spaces, none-inside}
 use Rattle.gta_minimise.proofs.ReadLemmas.{step-quotient}
 

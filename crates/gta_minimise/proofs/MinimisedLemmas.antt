@@ -25,7 +25,7 @@ use Rattle.gta_core.specs.Changes.{RegistersTable}
 use Rattle.gta_room.specs.Progress.{Adds, IsStuck}
 use Rattle.gta_room.proofs.ProgressLemmas.{room-new, limit-stuck}
 use Rattle.gta_refine.specs.declared.form.Form.{Form}
-use Rattle.gta_refine.specs.declared.rounds.SpaceClasses.{SpaceClasses}
+use Rattle.gta_classes.specs.declared.part.SpaceClasses.{SpaceClasses}
 use Rattle.gta_refine.specs.Form as form
 use Rattle.gta_refine.specs.Refined.{part_at, classes_in, quotient_of, IsRefined}
 use Rattle.gta_form.specs.Listed.{IsFormOf}

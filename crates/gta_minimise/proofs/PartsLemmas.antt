@@ -19,7 +19,7 @@ use Rattle.gta_core.specs.declared.part.Part.{Part}
 use Rattle.gta_core.specs.Auto.{AutoView, states_of, guide_of, place_in, place_of, root_at, automaton_of, IsUsed, IsAuto, IsWhole}
 use Rattle.gta_core.proofs.AutoLemmas.{step-some, past-none}
 use Rattle.gta_refine.specs.declared.form.Form.{Form}
-use Rattle.gta_refine.specs.declared.rounds.SpaceClasses.{SpaceClasses}
+use Rattle.gta_classes.specs.declared.part.SpaceClasses.{SpaceClasses}
 use Rattle.gta_refine.specs.Form as form
 use Rattle.gta_refine.specs.Refined.{part_at, class_at, representative_at, classes_in, quotient_of, IsRefined}
 use Rattle.gta_refine.proofs.ReachLemmas.{none-inside, accepting-form}

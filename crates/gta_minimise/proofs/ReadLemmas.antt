@@ -3,7 +3,7 @@ use Rattle.std.proofs.Common.{◌≡◌, ℕ, List, refl}
 use Rattle.labels.specs.Labels.{Label}
 use Rattle.gta_theory.specs.Guides.{left, right}
 use Rattle.gta_refine.specs.declared.form.Form.{Form}
-use Rattle.gta_refine.specs.declared.rounds.SpaceClasses.{SpaceClasses}
+use Rattle.gta_classes.specs.declared.part.SpaceClasses.{SpaceClasses}
 use Rattle.gta_refine.specs.Form.{guide_of, automaton_of}
 use Rattle.gta_refine.specs.Refined.{class_at, representative_at, quotient_of}
 

@@ -9,11 +9,11 @@ use Rattle.bdd_walk.proofs.AddsAmongLemmas.{AddsAmong-more, ExceedsAmong-more}
 use Rattle.gta_theory.specs.Guides.{Spaces, IsSpace, left, right}
 use Rattle.gta_theory.specs.Automata.{Automaton}
 use Rattle.gta_theory.specs.Generated.{Generated, steps}
-use Rattle.gta_project.specs.Numbers.{number_in, AreNumbers, Extends}
+use Rattle.gta_subsets.specs.Numbers.{number_in, AreNumbers, Extends}
 use Rattle.gta_project.specs.Filling.{IsCellFunction, Joins, ExceedsCells}
 use Rattle.gta_project.specs.Growing.{AreGenerated}
 use Rattle.gta_project.specs.Building.{IsSpaceOf, AreSpaces, IsStepFunction, CompleteAll, ExceedsSteps, Building, ExtendAll}
-use Rattle.gta_project.proofs.NumbersLemmas.{Extends-refl, Completes-extends}
+use Rattle.gta_subsets.proofs.NumbersLemmas.{Extends-refl, Completes-extends}
 use Rattle.gta_project.proofs.JoinsLemmas.{All-append, All-weaker}
 
 -- one space has other sets

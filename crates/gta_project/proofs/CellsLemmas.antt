@@ -10,12 +10,12 @@ use Rattle.bdd_nodes.specs.declared.node_ref.NodeRef.{NodeRef}
 use Rattle.bdd_nodes.specs.Shelf.{Contents, state_of, root_of}
 use Rattle.gta_theory.specs.Guides.{Spaces}
 use Rattle.gta_theory.specs.Constructions.{IsStepOf}
-use Rattle.gta_project.specs.Subsets.{set_step, subsets}
-use Rattle.gta_project.proofs.SubsetsLemmas.{set_step-same}
+use Rattle.gta_subsets.specs.Subsets.{set_step, subsets}
+use Rattle.gta_subsets.proofs.SubsetsLemmas.{set_step-same}
 use Rattle.gta_core.specs.declared.part.Part.{Part}
 use Rattle.gta_core.specs.Auto.{AutoView, place_in, root_at, automaton_of}
-use Rattle.gta_project.specs.Numbers.{number_in}
-use Rattle.gta_project.specs.Classes.{IsClassed}
+use Rattle.gta_subsets.specs.Numbers.{number_in}
+use Rattle.gta_subsets.specs.Classes.{IsClassed}
 use Rattle.gta_project.specs.Filling.{IsCell}
 use Rattle.gta_project.specs.Building.{IsBuilt}
 

@@ -14,12 +14,12 @@ use Rattle.bdd_walk.proofs.AddsAmongLemmas.{ExceedsAmong-alone}
 use Rattle.bdd_walk.proofs.SetsLemmas.{set_of-twice}
 use Rattle.gta_core.specs.Auto.{AutoView, root_at, automaton_of}
 use Rattle.bdd_walk.specs.Sets.{set_of}
-use Rattle.gta_project.specs.Subsets.{set_step}
-use Rattle.gta_project.specs.Roots.{AreRoots}
-use Rattle.gta_project.specs.Numbers.{number_in, numbered, AreOfOneSet, AreNumbers}
+use Rattle.gta_subsets.specs.Subsets.{set_step}
+use Rattle.gta_subsets.specs.Roots.{AreRoots}
+use Rattle.gta_subsets.specs.Numbers.{number_in, numbered, AreOfOneSet, AreNumbers}
 use Rattle.gta_project.specs.Filling.{Stepping, IsCell, IsCellFunction, ExceedsCells, Joins}
-use Rattle.gta_project.proofs.NumbersLemmas.{number_in-get, Completes-lists}
-use Rattle.gta_project.proofs.SubsetsLemmas.{set_of-asked}
+use Rattle.gta_subsets.proofs.NumbersLemmas.{number_in-get, Completes-lists}
+use Rattle.gta_subsets.proofs.SubsetsLemmas.{set_of-asked}
 
 cases_number : (o : Option ℕ) → (o ≡ None) ⊎ ((n : ℕ) × (o ≡ Some n))
 cases_number None = inl refl

@@ -24,13 +24,13 @@ use Rattle.gta_core.specs.declared.part.Part.{Part}
 use Rattle.gta_core.specs.Auto.{AutoView, states_of, is_accepting, guide_of, place_in, place_of, root_at, automaton_of, IsUsed, IsAuto, IsWhole}
 use Rattle.gta_core.proofs.AutoLemmas.{past-none, step-some}
 use Rattle.bdd_walk.specs.Sets.{IsSet, has_state}
-use Rattle.gta_project.specs.Subsets.{set_step, subsets, IsInitial, AreInitial}
+use Rattle.gta_subsets.specs.Subsets.{set_step, subsets, IsInitial, AreInitial}
 use Rattle.bdd_walk.proofs.SetsLemmas.{has_state-true, Contains-has_state, sets-same}
-use Rattle.gta_project.proofs.SubsetsLemmas.{set_step-has, set_step-only}
-use Rattle.gta_project.specs.Numbers.{number_in, Extends}
+use Rattle.gta_subsets.proofs.SubsetsLemmas.{set_step-has, set_step-only}
+use Rattle.gta_subsets.specs.Numbers.{number_in, Extends}
 use Rattle.gta_project.specs.Filling.{IsCell}
 use Rattle.gta_project.specs.Building.{AreSpaces, IsPartOf, AreParts, ExtendAll}
-use Rattle.gta_project.proofs.NumbersLemmas.{number_in-get}
+use Rattle.gta_subsets.proofs.NumbersLemmas.{number_in-get}
 use Rattle.gta_project.proofs.CellsLemmas.{get-index, has-root, is-place}
 
 -- lists with the same elements are the same

@@ -12,16 +12,16 @@ use Rattle.bdd_nodes.proofs.CallerLemmas.{Keeps-refl, Keeps-trans}
 use Rattle.bdd_walk.specs.Answers.{Completes}
 use Rattle.gta_theory.specs.Guides.{Spaces, IsSpace, left, right}
 use Rattle.gta_theory.specs.Automata.{Automaton}
-use Rattle.gta_project.specs.Subsets.{subsets, AreInitial}
+use Rattle.gta_subsets.specs.Subsets.{subsets, AreInitial}
 use Rattle.gta_core.specs.Auto.{AutoView, automaton_of, IsAuto}
 use Rattle.gta_theory.proofs.ListsLemmas.{All-from_contains}
 use Rattle.gta_project.specs.declared.growing.Seen.{Seen}
 use Rattle.gta_project.specs.declared.growing.Growth.{Growth}
-use Rattle.gta_project.specs.Classes.{Notes, known, fresh}
-use Rattle.gta_project.specs.Numbers.{number_in, AreNumbers, Extends}
+use Rattle.gta_subsets.specs.Classes.{Notes, known, fresh}
+use Rattle.gta_subsets.specs.Numbers.{number_in, AreNumbers, Extends}
 use Rattle.gta_project.specs.Filling.{Joins, ExceedsCells}
 use Rattle.gta_project.specs.Building.{AreSpaces, CompleteAll, ExceedsSteps, HasManyCells, Building, Exceeded, ExtendAll}
-use Rattle.gta_project.specs.Shorts.{rows_in, columns_in}
+use Rattle.gta_subsets.specs.Shorts.{rows_in, columns_in}
 use Rattle.gta_project.specs.Growing.{AreGenerated, HasSeen, HaveSeen, Goes, LacksRoom, room_left}
 use Rattle.gta_project.proofs.BuildingLemmas.{ChangesSpace, ExtendAll-set, AreSpaces-set, Building-set, ExceedsSteps-set}
 use Rattle.gta_project.proofs.CellsLemmas.{get-index}
@@ -231,10 +231,6 @@ LacksRoom-cells g Sets a shelf s inside growth seen many before after = λ start
 })
 
 -- what follows where a call answers Ok
-pub on-ok : {T E P Q : Type 0} (r : Result T E) → (P → Q) → OnOk r P → OnOk r Q
-on-ok (Ok x) follows holds = follows holds
-on-ok (Err e) follows holds = tt
-
 pub on-ok-both : {T E P Q S : Type 0} (r : Result T E) → (P → Q → S) → OnOk r P → OnOk r Q → OnOk r S
 on-ok-both (Ok x) follows one other = follows one other
 on-ok-both (Err e) follows one other = tt

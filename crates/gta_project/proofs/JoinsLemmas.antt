@@ -11,9 +11,9 @@ use Rattle.bdd_nodes.specs.Changes.{Keeps}
 use Rattle.bdd_nodes.proofs.CallerLemmas.{Keeps-refl, Keeps-trans}
 use Rattle.bdd_walk.specs.Answers.{Completes}
 use Rattle.bdd_walk.proofs.AddsAmongLemmas.{AddsAmong-none, AddsAmong-more, ExceedsAmong-more}
-use Rattle.gta_project.specs.Numbers.{number_in, AreNumbers, Extends}
+use Rattle.gta_subsets.specs.Numbers.{number_in, AreNumbers, Extends}
 use Rattle.gta_project.specs.Filling.{Stepping, IsCell, IsMade, IsCellFunction, ExceedsCells, Joins, IsRow, AreCells}
-use Rattle.gta_project.proofs.NumbersLemmas.{Extends-refl, Extends-trans, Completes-extends, number_in-extends, get-snoc, get-last}
+use Rattle.gta_subsets.proofs.NumbersLemmas.{Extends-refl, Extends-trans, Completes-extends, number_in-extends, get-snoc, get-last}
 
 pub All-tail : {X : Type 0} (P : X → Type 0) (x : X) (xs : List X) → All P (x ∷ xs) → All P xs
 All-tail P x xs all = λ k d within. all (suc k) d (omega arith)

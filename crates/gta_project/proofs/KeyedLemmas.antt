@@ -3,11 +3,11 @@ use Rattle.std.proofs.Common.{◌≡◌, ◌≢◌, ℕ, ◌<◌, List, [], ◌�
 use Rattle.std.specs.List.{All, AllPairs}
 use Rattle.std.proofs.lemmas.Option.{slice_get-get_or}
 use Rattle.gta_project.specs.declared.growing.Seen.{Seen}
-use Rattle.gta_project.specs.Numbers.{number_in, AreNumbers, Grows}
-use Rattle.gta_project.specs.Classes.{classes_of, AreKeyed, Notes}
+use Rattle.gta_subsets.specs.Numbers.{number_in, AreNumbers, Grows}
+use Rattle.gta_subsets.specs.Classes.{classes_of, AreKeyed, Notes}
 use Rattle.gta_project.specs.Growing.{IsKeyed}
-use Rattle.gta_project.proofs.NumbersLemmas.{AreNumbers-none}
-use Rattle.gta_project.proofs.ClassesLemmas.{AreKeyed-none, AreKeyed-more}
+use Rattle.gta_subsets.proofs.NumbersLemmas.{AreNumbers-none}
+use Rattle.gta_subsets.proofs.ClassesLemmas.{AreKeyed-none, AreKeyed-more}
 
 pub IsKeyed-none : (states : List ℕ) (seen : Seen) → seen.ones ≡ [] → seen.keys ≡ [] → IsKeyed states seen
 IsKeyed-none states seen no_ones no_keys = record {

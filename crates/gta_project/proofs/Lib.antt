@@ -1,9 +1,3 @@
-pub mod NumbersLemmas
-pub mod ClassesLemmas
-pub mod ShortsLemmas
-pub mod RootsLemmas
-pub mod SubsetsLemmas
-pub mod ClosingLemmas
 pub mod JoinsLemmas
 pub mod NextLemmas
 pub mod BuildingLemmas

@@ -21,9 +21,9 @@ use Rattle.gta_theory.proofs.CountingLemmas.{matched-le}
 use Rattle.gta_theory.proofs.ListsLemmas.{Contains-map, place-once}
 use Rattle.gta_theory.proofs.SizesLemmas.{length-partners}
 use Rattle.bdd_walk.specs.Sets.{IsSet}
-use Rattle.gta_project.specs.Subsets.{subsets, IsInitial, AreInitial}
+use Rattle.gta_subsets.specs.Subsets.{subsets, IsInitial, AreInitial}
 use Rattle.bdd_walk.proofs.SetsLemmas.{sets-same}
-use Rattle.gta_project.proofs.SubsetsLemmas.{set_step-has, set_step-only, IsSet-step}
+use Rattle.gta_subsets.proofs.SubsetsLemmas.{set_step-has, set_step-only, IsSet-step}
 use Rattle.gta_project.proofs.CellsLemmas.{get-index}
 use Rattle.gta_project.specs.Building.{IsStepFunction, ExceedsSteps, HasManyCells}
 use Rattle.gta_project.proofs.ShelfLemmas.{Contains-get}

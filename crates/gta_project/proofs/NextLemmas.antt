@@ -7,9 +7,9 @@ use Rattle.bdd_nodes.specs.Shelf.{Contents, IsShelf, IsValid}
 use Rattle.bdd_nodes.specs.Changes.{Keeps}
 use Rattle.bdd_walk.specs.Answers.{Completes}
 use Rattle.gta_theory.specs.Automata.{Automaton}
-use Rattle.gta_project.specs.Subsets.{set_step}
+use Rattle.gta_subsets.specs.Subsets.{set_step}
 use Rattle.gta_core.specs.Auto.{AutoView, automaton_of}
-use Rattle.gta_project.specs.Numbers.{number_in, AreNumbers}
+use Rattle.gta_subsets.specs.Numbers.{number_in, AreNumbers}
 use Rattle.gta_project.specs.Filling.{Stepping, ExceedsCells, Joins}
 use Rattle.gta_project.proofs.ShelfLemmas.{automaton-kept}
 use Rattle.gta_project.proofs.JoinsLemmas.{Joins-wider, ExceedsCells-wider, Joins-trans, ExceedsCells-after, All-append, All-alone, All-weaker}

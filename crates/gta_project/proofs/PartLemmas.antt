@@ -15,12 +15,12 @@ use Rattle.gta_theory.specs.Guides.{Spaces, IsGuide, IsSpace, left, right}
 use Rattle.gta_theory.specs.Automata.{Automaton}
 use Rattle.gta_theory.specs.Numbered.{Below}
 use Rattle.gta_theory.proofs.ListsLemmas.{All-from_contains}
-use Rattle.gta_project.specs.Subsets.{subsets, AreInitial}
+use Rattle.gta_subsets.specs.Subsets.{subsets, AreInitial}
 use Rattle.gta_core.specs.declared.part.Part.{Part}
 use Rattle.gta_core.specs.Auto.{AutoView, states_of, guide_of, root_at, automaton_of, IsAuto}
-use Rattle.gta_project.specs.declared.classes.Classes.{Classes}
-use Rattle.gta_project.specs.Numbers.{numbered}
-use Rattle.gta_project.specs.Classes.{AreClasses}
+use Rattle.gta_subsets.specs.declared.classes.Classes.{Classes}
+use Rattle.gta_subsets.specs.Numbers.{numbered}
+use Rattle.gta_subsets.specs.Classes.{AreClasses}
 use Rattle.gta_project.specs.Filling.{AreCells}
 use Rattle.gta_project.specs.Building.{AreSpaces, IsBuilt, FitAll}
 use Rattle.gta_project.proofs.ShelfLemmas.{Contains-get, row-within, column-within, generated-below}

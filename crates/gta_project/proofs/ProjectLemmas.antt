@@ -12,10 +12,10 @@ use Rattle.bdd_walk.proofs.CallLemmas.{given_by, Completes-given_by}
 use Rattle.gta_theory.specs.Guides.{Spaces, IsGuide}
 use Rattle.gta_theory.specs.Automata.{Automaton, IsStable, Has}
 use Rattle.gta_theory.specs.Constructions.{IsSubset}
-use Rattle.gta_project.specs.Subsets.{subsets, AreInitial}
+use Rattle.gta_subsets.specs.Subsets.{subsets, AreInitial}
 use Rattle.gta_theory.specs.Sizes.{SizeOf}
 use Rattle.gta_core.specs.Changes.{RegistersTable}
-use Rattle.gta_project.specs.Numbers.{number_in}
+use Rattle.gta_subsets.specs.Numbers.{number_in}
 use Rattle.gta_project.specs.Building.{AreSpaces, CompleteAll, ExceedsSteps, HasManyCells, Building, Leaves}
 use Rattle.gta_project.proofs.LimitLemmas.{limit-below, cells-below}
 

@@ -11,9 +11,9 @@ use Rattle.gta_core.specs.declared.part.Part.{Part}
 use Rattle.gta_core.specs.Auto.{AutoView}
 use Rattle.gta_core.specs.Placing.{Grows}
 use Rattle.gta_core.proofs.AutoLemmas.{past-none}
-use Rattle.gta_project.specs.Numbers.{AreNumbers, Extends}
+use Rattle.gta_subsets.specs.Numbers.{AreNumbers, Extends}
 use Rattle.gta_project.specs.Building.{AreSpaces, IsBuilt, IsPartOf, AreParts, ExtendAll}
-use Rattle.gta_project.proofs.NumbersLemmas.{Extends-refl, Extends-trans, get-snoc, get-kept, get-last}
+use Rattle.gta_subsets.proofs.NumbersLemmas.{Extends-refl, Extends-trans, get-snoc, get-kept, get-last}
 use Rattle.gta_project.proofs.CellsLemmas.{cell-inside, get-index}
 use Rattle.gta_project.proofs.JoinsLemmas.{IsCell-kept}
 

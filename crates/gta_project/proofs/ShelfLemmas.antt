@@ -10,9 +10,9 @@ use Rattle.bdd_nodes.specs.Changes.{Keeps, SameTables}
 use Rattle.gta_theory.specs.Guides.{Spaces, IsGuide, IsSpace, left, right}
 use Rattle.gta_theory.specs.Automata.{Automaton}
 use Rattle.labels.specs.Labels.{with_track}
-use Rattle.gta_project.specs.Subsets.{subsets, AreInitial}
-use Rattle.gta_project.proofs.SubsetsLemmas.{set_step-only}
-use Rattle.gta_project.proofs.ClosingLemmas.{settled-below, get-index}
+use Rattle.gta_subsets.specs.Subsets.{subsets, AreInitial}
+use Rattle.gta_subsets.proofs.SubsetsLemmas.{set_step-only}
+use Rattle.gta_subsets.proofs.ClosingLemmas.{settled-below, get-index}
 use Rattle.gta_theory.specs.Generated.{Generated, starts, steps}
 use Rattle.gta_theory.specs.Numbered.{Below}
 use Rattle.gta_core.specs.declared.part.Part.{Part}

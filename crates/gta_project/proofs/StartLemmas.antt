@@ -4,8 +4,8 @@ use Rattle.std.specs.Prelude.{unwrap_or}
 use Rattle.gta_theory.specs.Guides.{Spaces, IsSpace}
 use Rattle.gta_theory.specs.Generated.{Generated, starts}
 use Rattle.gta_theory.specs.Automata.{Automaton}
-use Rattle.gta_project.specs.Subsets.{subsets}
-use Rattle.gta_project.specs.Numbers.{AreNumbers, Grows, stays, comes}
+use Rattle.gta_subsets.specs.Subsets.{subsets}
+use Rattle.gta_subsets.specs.Numbers.{AreNumbers, Grows, stays, comes}
 use Rattle.gta_project.specs.Building.{IsSpaceOf}
 
 one-set : (new : List (List ℕ)) (set : List ℕ) (number : ℕ) → Grows [] new set → number < length new → new ≡ set ∷ []

@@ -14,8 +14,8 @@ use Rattle.gta_theory.specs.Automata.{Automaton}
 use Rattle.gta_theory.specs.Generated.{Generated}
 use Rattle.gta_core.specs.declared.part.Part.{Part}
 use Rattle.gta_core.specs.Auto.{AutoView}
-use Rattle.gta_project.specs.Numbers.{number_in, numbered, AreNumbers, Extends}
-use Rattle.gta_project.specs.Classes.{AreClasses}
+use Rattle.gta_subsets.specs.Numbers.{number_in, numbered, AreNumbers, Extends}
+use Rattle.gta_subsets.specs.Classes.{AreClasses}
 use Rattle.gta_project.specs.Filling.{IsCell}
 
 module _ (g : Spaces) (Sets : Automaton (List ℕ)) where

@@ -7,7 +7,7 @@ use Rattle.bdd_nodes.specs.Changes.{Keeps, SameTables}
 use Rattle.bdd_walk.specs.Answers.{Completes}
 use Rattle.bdd_walk.specs.Under.{AddsAmong, ExceedsAmong}
 use Rattle.gta_core.specs.Placing.{Grows}
-use Rattle.gta_project.specs.Numbers.{number_in, Extends}
+use Rattle.gta_subsets.specs.Numbers.{number_in, Extends}
 
 -- how a space steps from a set of each child on a label
 abbrev pub Stepping : Type 0

@@ -8,9 +8,9 @@ use Rattle.gta_theory.specs.Generated.{Generated}
 use Rattle.gta_core.specs.Auto.{AutoView}
 use Rattle.gta_project.specs.declared.growing.Seen.{Seen}
 use Rattle.gta_project.specs.declared.growing.Growth.{Growth}
-use Rattle.gta_project.specs.Numbers.{AreNumbers}
-use Rattle.gta_project.specs.Classes.{AreKeyed}
-use Rattle.gta_project.specs.Shorts.{rows_in, columns_in}
+use Rattle.gta_subsets.specs.Numbers.{AreNumbers}
+use Rattle.gta_subsets.specs.Classes.{AreKeyed}
+use Rattle.gta_subsets.specs.Shorts.{rows_in, columns_in}
 use Rattle.gta_project.specs.Building.{CompleteAll, ExceedsSteps, HasManyCells, Building, ExtendAll}
 
 -- the sets that were looked at have classes, each with a key of its own

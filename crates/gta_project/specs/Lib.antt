@@ -1,9 +1,3 @@
-pub mod Subsets
-pub mod Numbers
-pub mod Classes
-pub mod Shorts
-pub mod Roots
-pub mod Closing
 pub mod Filling
 pub mod Building
 pub mod Project

@@ -5,18 +5,16 @@ ghost use Rattle.bdd_walk.specs.Answers.{Completes};
 ghost use Rattle.bdd_walk.specs.Fits.{FitsSets};
 ghost use Rattle.bdd_nodes.specs.Shelf.{IsValid};
 ghost use Rattle.gta_core.specs.Auto.{table_of, root_at, automaton_of};
-ghost use Rattle.gta_project.specs.Subsets.{set_step};
-ghost use Rattle.gta_project.specs.Numbers.{number_in, numbered, AreNumbers};
-ghost use Rattle.gta_project.specs.Classes.{HaveClasses};
-ghost use Rattle.gta_project.specs.Shorts.{rows_in, columns_in, AreShorts};
+ghost use Rattle.gta_subsets.specs.Subsets.{set_step};
+ghost use Rattle.gta_subsets.specs.Numbers.{number_in, numbered, AreNumbers};
+ghost use Rattle.gta_subsets.specs.Classes.{HaveClasses};
+ghost use Rattle.gta_subsets.specs.Shorts.{rows_in, columns_in, AreShorts};
 ghost use Rattle.gta_project.specs.Filling.{IsCell, Joins, ExceedsCells, IsRow, AreCells};
 
-use crate::numbering::Numbering;
-use crate::roots::roots_at;
-use crate::shorts::{classes_in, one_a_class, shortened};
 use bdd_nodes::{NodeRef, RefList, Shelf};
 use bdd_walk::{SetJoiner, StateList, Stop};
 use gta_core::Auto;
+use gta_subsets::{Numbering, classes_in, one_a_class, roots_at, shortened};
 use std::alloc::Global;
 
 /// The root for a set of each child: a join of the roots that the automaton has for their states, with the track dropped.

@@ -3,17 +3,16 @@
 ghost use Rattle.std.specs.Prelude.{◌≡◌, ◌<◌, ◌*◌, ◌⊎◌, ℕ, List, [], length, map, Err, All, Contains, IfOk, OnOk, IsTrue, ◌↔◌, Some, slice_get};
 ghost use Rattle.gta_theory.specs.Automata.{Automaton};
 ghost use Rattle.gta_theory.specs.Guides.{left, right};
-ghost use Rattle.gta_project.specs.Subsets.{subsets, AreInitial};
+ghost use Rattle.gta_subsets.specs.Subsets.{subsets, AreInitial};
 ghost use Rattle.gta_core.specs.Auto.{AutoView, table_of, automaton_of, IsAuto};
 ghost use Rattle.gta_project.specs.Building.{AreSpaces, FitAll};
 ghost use Rattle.gta_project.specs.Growing.{AreGenerated, IsKeyed, HasSeen, HaveSeen, Goes, LacksRoom};
 
-use crate::classes::{key_of, note};
 use crate::filling::fill;
-use crate::numbering::Numbering;
 use bdd_nodes::{NodeRef, RefList, Shelf};
 use bdd_walk::{NoMemory, SetJoiner, StateList, Stop};
 use gta_core::Auto;
+use gta_subsets::{Numbering, key_of, note};
 use plain_data::Items;
 use std::alloc::Global;
 use ws2s_core::Guide;

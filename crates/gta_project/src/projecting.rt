@@ -13,19 +13,17 @@ ghost use Rattle.gta_core.specs.Auto.{states_of, is_accepting, table_of, automat
 ghost use Rattle.gta_core.specs.Changes.{RegistersTable};
 ghost use Rattle.gta_core.specs.Placing.{Grows};
 ghost use Rattle.bdd_walk.specs.Sets.{IsSet};
-ghost use Rattle.gta_project.specs.Subsets.{subsets, AreInitial};
+ghost use Rattle.gta_subsets.specs.Subsets.{subsets, AreInitial};
 ghost use Rattle.gta_project.specs.Project.{IsSubsetOf};
 ghost use Rattle.gta_project.specs.Building.{AreSpaces, FitAll, ExtendAll, Building, CompleteAll, ExceedsSteps, IsPartOf, AreParts, Leaves, Exceeded};
 ghost use Rattle.gta_project.specs.Settled.{IsSettled};
 
-use crate::classes::classify;
-use crate::closing::initial_sets;
 use crate::filling::fill;
 use crate::growing::{are_same, counts, grow, growths};
-use crate::numbering::{Numbering, room_for};
 use bdd_nodes::{NodeRef, RefList, Shelf};
 use bdd_walk::{NoMemory, SetJoiner, StateList, Stop};
 use gta_core::{Auto, BoolList, Part};
+use gta_subsets::{Numbering, classify, initial_sets, room_for};
 use plain_data::Items;
 use std::alloc::{AllocError, Global};
 use ws2s_core::{Guide, Track};

@@ -1,6 +1,6 @@
 -- What gives some states is found from the leaves up.
-use Rattle.std.proofs.Common.{◌≡◌, ℕ, zero, suc, ◌+◌, ◌<◌, ◌≤◌, Bool, true, false, List, [], ◌∷◌, ◌++◌, length, map, ◌⊎◌, inl, inr}
-use Rattle.std.proofs.Common.{if◌then◌else◌, sym, ◌∙◌, ap, refl, subst, arith, length-append, append-nil, append_assoc}
+use Rattle.std.proofs.Common.{◌≡◌, ℕ, zero, suc, ◌+◌, ◌<◌, ◌≤◌, Bool, true, false, List, [], ◌∷◌, ◌++◌, length, map, ◌⊎◌, inl, inr, if◌then◌else◌}
+use Rattle.std.proofs.Common.{sym, ◌∙◌, ap, refl, subst, arith, length-append, append-nil, append_assoc}
 use Rattle.std.specs.Prelude.{Contains, slice_index, slice_index_or, slice_set}
 use Rattle.std.proofs.lemmas.List.{get_or_default, get_or_append_left}
 use Rattle.std.proofs.lemmas.List.Elements.{Contains-push, Contains-push_cases, Contains-append_left, Contains-append_cases}
@@ -13,12 +13,12 @@ use Rattle.bdd_list.specs.declared.listing.Listed.TheVariants.{Leaf, Inner}
 use Rattle.bdd_list.specs.declared.listing.ListedNode.{ListedNode}
 use Rattle.bdd_list.specs.Listing.{rank, function_in, node_at, IsIn, AreOrdered}
 use Rattle.bdd_list.proofs.ListingLemmas.{function_in-leaf, function_in-inner, function_in-unasked}
-use Rattle.gta_refine.specs.Chosen.{is_marked}
+use Rattle.gta_classes.specs.Chosen.{is_marked}
 use Rattle.gta_refine.specs.Uses.{above_of, HasPlace, AreAbove, HasSide}
-use Rattle.gta_refine.specs.Scratch.{IsClear}
+use Rattle.gta_classes.specs.Marks.{IsClear}
 use Rattle.gta_refine.specs.Givers.{GivesSome, AreClimbed, AddsNodes}
-use Rattle.gta_refine.proofs.ChosenLemmas.{marked-set_cases}
-use Rattle.gta_refine.proofs.ListsLemmas.{FromMap-map, Contains-map, Contains-none}
+use Rattle.gta_classes.proofs.ChosenLemmas.{marked-set_cases}
+use Rattle.gta_classes.proofs.ListsLemmas.{FromMap-map, Contains-map, Contains-none}
 
 -- a node gives what its sides give
 module _ (nodes : List ListedNode) (ordered : AreOrdered nodes) (i : ℕ) (inside : i < length nodes) where

@@ -23,14 +23,14 @@ use Rattle.gta_refine.specs.declared.rows.Side.TheVariants.{Left, Right}
 use Rattle.gta_refine.specs.declared.explore.Waiting.{Waiting}
 use Rattle.gta_refine.specs.declared.explore.Kept.{Kept}
 use Rattle.gta_refine.specs.Form.{cell_in, root_in, guide_of, states_of, initial_of, automaton_of, IsForm}
-use Rattle.gta_refine.specs.Chosen.{is_marked}
+use Rattle.gta_classes.specs.Chosen.{is_marked}
 use Rattle.gta_refine.specs.Rows.{cell_at, HasRootAt}
 use Rattle.gta_refine.specs.Reached.{HasRoot, is_reached, AreGenerated}
 use Rattle.gta_refine.specs.Refined.{child_of, child_at, opposite}
-use Rattle.gta_refine.specs.Lists.{list_at, IsAdded}
-use Rattle.gta_refine.specs.Scratch.{IsClear}
+use Rattle.gta_classes.specs.Lists.{list_at, IsAdded}
+use Rattle.gta_classes.specs.Marks.{IsClear}
 use Rattle.gta_refine.specs.Exploring.{with_mark, AreClear, IsGeneratedIn, IsGeneratedAt, GivesGenerated, IsWaiting, KeepsNone, AllKeepNone, AreKept, AreSpaces}
-use Rattle.gta_refine.proofs.ChosenLemmas.{marked-set, marked-set_cases}
+use Rattle.gta_classes.proofs.ChosenLemmas.{marked-set, marked-set_cases}
 use Rattle.gta_refine.proofs.ReachLemmas.{left-at, right-at, initial-at, step-at, many_spaces, initial-form, at-other, at-same}
 use Rattle.gta_refine.proofs.ClimbLemmas.{gives-low, gives-high}
 

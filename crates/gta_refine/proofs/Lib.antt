@@ -1,17 +1,13 @@
-pub mod ChosenLemmas
 pub mod SweepLemmas
 pub mod ReachLemmas
 pub mod NumbersLemmas
 pub mod RowsLemmas
-pub mod SplitLemmas
 pub mod IdsLemmas
 pub mod RefineLemmas
 pub mod RoomLemmas
-pub mod ListsLemmas
 pub mod ClimbLemmas
 pub mod UsesLemmas
 pub mod CutLemmas
-pub mod MembersLemmas
 pub mod GiversLemmas
 pub mod ScratchLemmas
 pub mod ExploreLemmas

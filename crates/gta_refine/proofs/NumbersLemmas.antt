@@ -1,6 +1,6 @@
 -- Numbers for functions.
-use Rattle.std.proofs.Common.{◌≡◌, ℕ, suc, ◌+◌, ◌<◌, ◌≤◌, Bool, true, false, List, [], ◌∷◌, ◌++◌, length, Some, inl, inr}
-use Rattle.std.proofs.Common.{if◌then◌else◌, sym, ◌∙◌, ap, refl, subst, arith, length-append}
+use Rattle.std.proofs.Common.{◌≡◌, ℕ, suc, ◌+◌, ◌<◌, ◌≤◌, Bool, true, false, List, [], ◌∷◌, ◌++◌, length, Some, inl, inr, if◌then◌else◌}
+use Rattle.std.proofs.Common.{sym, ◌∙◌, ap, refl, subst, arith, length-append}
 use Rattle.std.specs.Prelude.{slice_get, slice_index, slice_index_or}
 use Rattle.std.proofs.lemmas.Option.{slice_get_within, slice_get-get_or}
 use Rattle.labels.specs.Labels.{Label}

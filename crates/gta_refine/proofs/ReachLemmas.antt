@@ -14,9 +14,9 @@ use Rattle.gta_theory.proofs.GeneratedLemmas.{IsReached-generated}
 use Rattle.gta_refine.specs.declared.form.FormSpace.{FormSpace}
 use Rattle.gta_refine.specs.declared.form.Form.{Form}
 use Rattle.gta_refine.specs.Form.{cell_in, root_in, step_in, guide_of, states_of, initial_of, automaton_of, IsForm}
-use Rattle.gta_refine.specs.Chosen.{is_marked, AreChosen}
+use Rattle.gta_classes.specs.Chosen.{is_marked, AreChosen}
 use Rattle.gta_refine.specs.Reached.{HasRoot, IsGiven, IsSwept, is_reached, AreGenerated, IsClosedIn, AreReached}
-use Rattle.gta_refine.proofs.ChosenLemmas.{marked-inside, marked-set_same, marked-set_cases}
+use Rattle.gta_classes.proofs.ChosenLemmas.{marked-inside, marked-set_same, marked-set_cases}
 
 -- the parts of a form
 module _ (form : Form) (s : ℕ) (space : FormSpace) (at : slice_get form.spaces s ≡ Some space) where

@@ -11,7 +11,7 @@ use Rattle.bdd_nodes.specs.declared.node_ref.NodeRef.{NodeRef}
 use Rattle.gta_refine.specs.declared.form.FormSpace.{FormSpace}
 use Rattle.gta_refine.specs.declared.rows.Side.{Side}
 use Rattle.gta_refine.specs.declared.rows.Side.TheVariants.{Left, Right}
-use Rattle.gta_refine.specs.Chosen.{IsAmong}
+use Rattle.gta_classes.specs.Chosen.{IsAmong}
 use Rattle.gta_refine.specs.Numbered.{number_at}
 use Rattle.gta_refine.specs.Firsts.{Row, Firsts, same_ref, first_of, AreFirsts, KeepsFirsts}
 use Rattle.gta_refine.specs.Rows.{kinds_in, cell_at, row_of, id_of, AreIds}

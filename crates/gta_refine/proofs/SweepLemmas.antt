@@ -1,6 +1,6 @@
 -- What steps give is marked.
-use Rattle.std.proofs.Common.{◌≡◌, ℕ, zero, suc, ◌+◌, ◌<◌, ◌≤◌, Bool, true, false, List, length, Some, inl, inr}
-use Rattle.std.proofs.Common.{if◌then◌else◌, sym, ◌∙◌, ap, refl, subst, arith}
+use Rattle.std.proofs.Common.{◌≡◌, ℕ, zero, suc, ◌+◌, ◌<◌, ◌≤◌, Bool, true, false, List, length, Some, inl, inr, if◌then◌else◌}
+use Rattle.std.proofs.Common.{sym, ◌∙◌, ap, refl, subst, arith}
 use Rattle.std.specs.Prelude.{slice_get, replicate}
 use Rattle.std.proofs.lemmas.List.{get_or-set_other, length-set, length-replicate, get_or-replicate}
 use Rattle.std.proofs.lemmas.Bool.{cases_eq, cases_lt, false≢true}
@@ -12,9 +12,9 @@ use Rattle.bdd_list.specs.Listing.{rank, function_in, function_of, node_at, IsIn
 use Rattle.bdd_list.proofs.ListingLemmas.{function_in-leaf, function_in-inner, function_in-unasked}
 use Rattle.gta_refine.specs.declared.form.FormSpace.{FormSpace}
 use Rattle.gta_refine.specs.Form.{cell_in, root_in, step_in}
-use Rattle.gta_refine.specs.Chosen.{is_marked, IsAmong}
+use Rattle.gta_classes.specs.Chosen.{is_marked, IsAmong}
 use Rattle.gta_refine.specs.Reached.{with_node, with_state, HasRoot, IsGiven, IsSwept, Sweeps, Grown, IsTouched, AreSidesTouched}
-use Rattle.gta_refine.proofs.ChosenLemmas.{marked-inside, marked-set_same, marked-set, marked-set_cases}
+use Rattle.gta_classes.proofs.ChosenLemmas.{marked-inside, marked-set_same, marked-set, marked-set_cases}
 
 pub Grown-refl : (nodes states : List Bool) → Grown nodes states nodes states
 Grown-refl nodes states = record {

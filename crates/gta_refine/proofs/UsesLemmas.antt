@@ -1,44 +1,32 @@
 -- Who uses what: one number after the other.
 use Rattle.std.proofs.Common.{◌≡◌, ℕ, ◌+◌, ◌<◌, Bool, true, false, List, [], ◌∷◌, ◌++◌, length, Some, ◌⊎◌, inl, inr}
-use Rattle.std.proofs.Common.{sym, ◌∙◌, ap, refl, subst, arith, length-append}
+use Rattle.std.proofs.Common.{sym, ◌∙◌, ap, refl, subst, arith}
 use Rattle.std.specs.Prelude.{Contains, slice_get, slice_index}
-use Rattle.std.proofs.lemmas.List.{get_or_default, get_or_append_left, get_or_push, get_or_past}
+use Rattle.std.proofs.lemmas.List.{get_or_default}
 use Rattle.std.proofs.lemmas.List.Elements.{Contains-get_or}
-use Rattle.std.proofs.lemmas.Bool.{cases_eq, cases_lt, false≢true}
+use Rattle.std.proofs.lemmas.Bool.{cases_eq, false≢true}
 use Rattle.bdd_list.specs.declared.listing.Listed.{Listed}
 use Rattle.bdd_list.specs.declared.listing.Listed.TheVariants.{Leaf, Inner}
 use Rattle.gta_theory.proofs.ListedLemmas.{slice_get-push}
 use Rattle.gta_refine.specs.declared.form.FormSpace.{FormSpace}
 use Rattle.gta_refine.specs.declared.form.Form.{Form}
-use Rattle.gta_refine.specs.declared.rounds.SpaceClasses.{SpaceClasses}
+use Rattle.gta_classes.specs.declared.part.SpaceClasses.{SpaceClasses}
 use Rattle.gta_refine.specs.declared.rows.Side.{Side}
 use Rattle.gta_refine.specs.declared.rows.Side.TheVariants.{Left, Right}
 use Rattle.gta_refine.specs.declared.uses.SideUses.{SideUses}
 use Rattle.gta_refine.specs.declared.uses.SpaceUses.{SpaceUses}
 use Rattle.gta_refine.specs.Form.{guide_of, IsForm}
-use Rattle.gta_refine.specs.Chosen.{is_marked, AreChosen}
+use Rattle.gta_classes.specs.Chosen.{is_marked, AreChosen}
 use Rattle.gta_refine.specs.Rows.{kinds_in, cell_at}
-use Rattle.gta_refine.specs.Lists.{Leads, IsAdded}
+use Rattle.gta_classes.specs.Lists.{Leads, IsAdded}
 use Rattle.gta_refine.specs.Uses.{above_of, HasPlace, IsAddedAbove, AreAbove, HasBeside, AddsOwner, AreOwners, AreLikes, IsOwn}
 use Rattle.gta_refine.specs.Uses.{AreSideUses, IsUses}
 use Rattle.gta_refine.specs.Refined.{part_at, is_reached_in, child_at, opposite, ArePartition}
-use Rattle.gta_refine.proofs.ChosenLemmas.{marked-inside}
+use Rattle.gta_classes.proofs.ChosenLemmas.{marked-inside}
 use Rattle.gta_refine.proofs.ReachLemmas.{cell-same}
 use Rattle.gta_refine.proofs.RowsLemmas.{cell_at-same}
 use Rattle.gta_refine.proofs.RefineLemmas.{child-space}
-use Rattle.gta_refine.proofs.ListsLemmas.{IsAmong-contains, Contains-among, Contains-none}
-
--- one empty list more
-pub Leads-none : (lists : List (List ℕ)) → ((place number : ℕ) → Leads lists place number → ⊥) → (place number : ℕ) →
-    Leads (lists ++ [] ∷ []) place number → ⊥
-Leads-none lists none place number there = elim (cases_lt place (length lists)) [
-  | inl before ↦ none place number (subst (λ (xs : List ℕ). Contains xs number) (get_or_append_left lists ([] ∷ []) [] place before) there)
-  | inr past ↦ elim (cases_eq place (length lists)) [
-    | inl last ↦ Contains-none number (subst (λ (xs : List ℕ). Contains xs number) (get_or_push lists [] [] place (sym last)) there)
-    | inr beyond ↦ Contains-none number (subst (λ (xs : List ℕ). Contains xs number)
-        (get_or_past (lists ++ [] ∷ []) place [] (let e = length-append lists ([] ∷ []) in omega arith)) there)
-  ]
-]
+use Rattle.gta_classes.proofs.ListsLemmas.{IsAmong-contains, Contains-among}
 
 -- a number is added at a leaf or a node
 pub IsAddedAbove-leaf : (leaves nodes : List (List ℕ)) (q number : ℕ) (new : List (List ℕ)) → IsAdded leaves q number new →
@@ -303,7 +291,11 @@ AreSideUses-chosen form is_form spaces partition s space at side own beside uses
           let from = owners.sound k p there in
           let b = from.1 in (
             value side p (chosen_own.each p (Contains-among own p from.0)),
-            record { other = b.other; value = value (opposite side) b.other (chosen_beside.each b.other (Contains-among beside b.other b.among)); root = b.root },
+            record {
+              other = b.other;
+              value = value (opposite side) b.other (chosen_beside.each b.other (Contains-among beside b.other b.among));
+              root = b.root;
+            },
           );
       owners = λ p b p_own b_own.
           let one = chosen_own.all p (reached side p p_own) in

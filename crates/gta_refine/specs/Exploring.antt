@@ -13,7 +13,7 @@ use Rattle.gta_refine.specs.declared.explore.Kept.{Kept}
 use Rattle.gta_refine.specs.Form.{guide_of, automaton_of}
 use Rattle.gta_refine.specs.Refined.{child_at}
 use Rattle.gta_refine.specs.Reached.{AreGenerated}
-use Rattle.gta_refine.specs.Scratch.{IsClear}
+use Rattle.gta_classes.specs.Marks.{IsClear}
 
 -- the marks of each space, with that of a number in one of them
 abbrev pub with_mark : List (List Bool) → ℕ → ℕ → List (List Bool)

@@ -6,10 +6,10 @@ use Rattle.bdd_list.specs.declared.listing.Listed.TheVariants.{Inner}
 use Rattle.bdd_list.specs.declared.listing.ListedNode.{ListedNode}
 use Rattle.bdd_list.specs.Listing.{function_in, IsIn}
 use Rattle.gta_refine.specs.declared.form.Form.{Form}
-use Rattle.gta_refine.specs.declared.rounds.SpaceClasses.{SpaceClasses}
+use Rattle.gta_classes.specs.declared.part.SpaceClasses.{SpaceClasses}
 use Rattle.gta_refine.specs.declared.rows.Side.{Side}
 use Rattle.gta_refine.specs.Form.{guide_of, automaton_of}
-use Rattle.gta_refine.specs.Chosen.{is_marked}
+use Rattle.gta_classes.specs.Chosen.{is_marked}
 use Rattle.gta_refine.specs.Refined.{is_reached_in, class_at, child_at, opposite, step_by}
 
 -- what is listed gives one of the states for some label

@@ -1,13 +1,9 @@
 pub mod Form
-pub mod Chosen
 pub mod Reached
 pub mod Numbered
 pub mod Rows
 pub mod Firsts
-pub mod Classes
-pub mod Splitting
 pub mod Refined
-pub mod Lists
 pub mod Uses
 pub mod Givers
 pub mod Cuts

@@ -11,7 +11,7 @@ use Rattle.gta_theory.specs.Generated.{Generated}
 use Rattle.gta_refine.specs.declared.form.FormSpace.{FormSpace}
 use Rattle.gta_refine.specs.declared.form.Form.{Form}
 use Rattle.gta_refine.specs.Form.{cell_in, root_in, step_in, guide_of, states_of, initial_of, automaton_of}
-use Rattle.gta_refine.specs.Chosen.{is_marked, IsAmong}
+use Rattle.gta_classes.specs.Chosen.{is_marked, IsAmong}
 
 -- the marks of nodes with that of what is listed
 abbrev pub with_node : List Bool → Listed → List Bool

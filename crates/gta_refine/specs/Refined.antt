@@ -10,12 +10,12 @@ use Rattle.gta_theory.specs.Minimal.{AreSeparated, IsMinimal}
 use Rattle.gta_theory.specs.Numbered.{Below}
 use Rattle.gta_refine.specs.declared.form.Form.{Form}
 use Rattle.gta_refine.specs.declared.form.FormSpace.{FormSpace}
-use Rattle.gta_refine.specs.declared.rounds.SpaceClasses.{SpaceClasses}
+use Rattle.gta_classes.specs.declared.part.SpaceClasses.{SpaceClasses}
 use Rattle.gta_refine.specs.declared.rows.Side.{Side}
 use Rattle.gta_refine.specs.declared.rows.Side.TheVariants.{Left, Right}
 use Rattle.gta_refine.specs.Form.{guide_of, states_of, automaton_of}
-use Rattle.gta_refine.specs.Chosen.{is_marked}
-use Rattle.gta_refine.specs.Classes.{AreClasses}
+use Rattle.gta_classes.specs.Chosen.{is_marked}
+use Rattle.gta_classes.specs.Classes.{AreClasses}
 
 -- the part of a space
 abbrev pub part_at : List SpaceClasses → ℕ → SpaceClasses

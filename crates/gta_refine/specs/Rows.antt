@@ -5,7 +5,7 @@ use Rattle.gta_refine.specs.declared.form.FormSpace.{FormSpace}
 use Rattle.gta_refine.specs.declared.rows.Side.{Side}
 use Rattle.gta_refine.specs.declared.rows.Side.TheVariants.{Left, Right}
 use Rattle.gta_refine.specs.Form.{cell_in}
-use Rattle.gta_refine.specs.Chosen.{IsAmong}
+use Rattle.gta_classes.specs.Chosen.{IsAmong}
 use Rattle.gta_refine.specs.Reached.{HasRoot}
 use Rattle.gta_refine.specs.Numbered.{number_at}
 

@@ -12,10 +12,10 @@ use Rattle.gta_refine.specs.declared.rows.Side.TheVariants.{Left, Right}
 use Rattle.gta_refine.specs.declared.uses.SideUses.{SideUses}
 use Rattle.gta_refine.specs.declared.uses.SpaceUses.{SpaceUses}
 use Rattle.gta_refine.specs.Form.{guide_of, states_of, automaton_of}
-use Rattle.gta_refine.specs.Chosen.{is_marked}
+use Rattle.gta_classes.specs.Chosen.{is_marked}
 use Rattle.gta_refine.specs.Rows.{kinds_in, cell_at}
 use Rattle.gta_refine.specs.Refined.{child_at, opposite}
-use Rattle.gta_refine.specs.Lists.{list_at, Leads}
+use Rattle.gta_classes.specs.Lists.{list_at, Leads}
 
 -- the numbers of what has what is listed, by lists for the leaves and for the nodes
 abbrev pub above_of : List (List ℕ) → List (List ℕ) → Listed → List ℕ

@@ -3,19 +3,20 @@
 
 ghost use Rattle.std.specs.Prelude.{◌≡◌, ◌<◌, ◌≤◌, ℕ, Contains, Some, true, length, slice_get, IfOk, IfSome};
 ghost use Rattle.gta_refine.specs.Form.{IsForm};
-ghost use Rattle.gta_refine.specs.Classes.{AreClasses};
+ghost use Rattle.gta_classes.specs.Classes.{AreClasses};
 ghost use Rattle.gta_refine.specs.Refined.{part_at, is_reached_in, ArePartition, room_in};
-ghost use Rattle.gta_refine.specs.Cuts.{IsCutAt, Covers, AllCover};
+ghost use Rattle.gta_classes.specs.Cuts.{Covers};
+ghost use Rattle.gta_refine.specs.Cuts.{IsCutAt, AllCover};
 ghost use Rattle.gta_refine.specs.Scratch.{IsReady};
 ghost use Rattle.gta_refine.specs.Uses.{AreUses};
 
-use crate::cut::cut;
-use crate::form::{Form, NumberList};
+use crate::form::Form;
 use crate::givers::givers;
-use crate::rounds::{SpaceClasses, child};
+use crate::rounds::child;
 use crate::rows::Side;
 use crate::scratch::{Scratch, scratch_of};
 use crate::uses::{SpaceUses, likes_of};
+use gta_classes::{NumberList, SpaceClasses, cut};
 use std::alloc::{AllocError, Global};
 
 /// Who uses what in a space.

@@ -9,15 +9,16 @@ ghost use Rattle.gta_refine.specs.declared.rows.Side.TheVariants.{Left, Right};
 ghost use Rattle.gta_refine.specs.Form.{IsForm};
 ghost use Rattle.gta_refine.specs.Reached.{AreGenerated};
 ghost use Rattle.gta_refine.specs.Refined.{opposite};
-ghost use Rattle.gta_refine.specs.Lists.{list_at};
-ghost use Rattle.gta_refine.specs.Exploring.{with_mark, AreClear, IsGeneratedIn, IsGeneratedAt, GivesGenerated, IsWaiting, AreMet, KeepsNone, AllKeepNone, AreKept, AreSpaces};
+ghost use Rattle.gta_classes.specs.Lists.{list_at};
+ghost use Rattle.gta_refine.specs.Exploring.{with_mark, AreClear, IsGeneratedIn, IsGeneratedAt, GivesGenerated, IsWaiting};
+ghost use Rattle.gta_refine.specs.Exploring.{AreMet, KeepsNone, AllKeepNone, AreKept, AreSpaces};
 
-use crate::form::{Form, FormSpace, NumberList};
-use crate::lists::{add_at, empty_lists, list_of, number_of};
+use crate::form::{Form, FormSpace};
 use crate::rounds::child;
 use crate::rows::{Side, above, kinds_of, listed_of};
 use crate::sweep::touch_state;
 use bdd_list::Listed;
+use gta_classes::{NumberList, add_at, empty_lists, list_of, number_of};
 use plain_data::{Items, Stack};
 use std::alloc::{AllocError, Global};
 

@@ -3,10 +3,8 @@
 ghost use Rattle.std.specs.Prelude.{◌≡◌, ◌<◌, length};
 
 use bdd_list::{Listed, ListedNode, Listing};
+use gta_classes::NumberList;
 use plain_data::Items;
-
-/// Numbers in order.
-pub type NumberList = Items<u32>;
 
 /// The states of a space, and which function each pair of child states has.
 ///

@@ -1,25 +1,26 @@
 //! The child states whose steps give states of a class.
 
-ghost use Rattle.std.specs.Prelude.{◌≡◌, ◌<◌, ℕ, Contains, Some, length, map, slice_get, flat_map, IfOk};
-ghost use Rattle.bdd_list.specs.declared.listing.Listed.TheVariants.{Leaf};
+ghost use Rattle.std.specs.Prelude.{◌≡◌, ◌<◌, ℕ, Contains, Some, true, length, map, slice_get, flat_map, IfOk};
+ghost use Rattle.bdd_list.specs.declared.listing.Listed.TheVariants.{Inner, Leaf};
 ghost use Rattle.bdd_list.specs.Listing.{AreOrdered};
 ghost use Rattle.gta_refine.specs.declared.form.FormSpace.{FormSpace};
+ghost use Rattle.gta_classes.specs.Chosen as marks_of;
 ghost use Rattle.gta_refine.specs.Form.{IsForm};
 ghost use Rattle.gta_refine.specs.Refined.{part_at, ArePartition};
 ghost use Rattle.gta_refine.specs.Uses.{above_of, AreAbove, HasSide, IsUses};
-ghost use Rattle.gta_refine.specs.Cuts.{Covers};
-ghost use Rattle.gta_refine.specs.Scratch.{IsClear};
+ghost use Rattle.gta_classes.specs.Cuts.{Covers};
+ghost use Rattle.gta_classes.specs.Marks.{IsClear};
 ghost use Rattle.gta_refine.specs.Givers.{AddsNodes, AreClimbed, AreMembers, AreGivers};
 
-use crate::chosen::{is_marked, mark, unmark_nodes};
-use crate::cut::add_members;
-use crate::form::{Form, NumberList};
-use crate::lists::{distinct, gather, numbers_at};
-use crate::rounds::{SpaceClasses, part_of, spread};
+use crate::form::Form;
+use crate::rounds::{part_of, spread};
 use crate::rows::{Side, kinds_of};
 use crate::scratch::Scratch;
 use crate::uses::{Above, SpaceUses};
 use bdd_list::{Listed, ListedNode};
+use gta_classes::{
+    NumberList, SpaceClasses, add_members, distinct, gather, is_marked, mark, numbers_at, unmark,
+};
 use std::alloc::{AllocError, Global};
 
 /// The reached states of a class.
@@ -60,6 +61,18 @@ fn add_nodes(nodes: &[u32], found: &mut Vec<bool>, list: &mut Vec<Listed>) -> Re
         }
     }
     Ok(())
+}
+
+/// Takes the marks of nodes away.
+fn unmark_nodes(marks: &mut Vec<bool>, list: &[Listed])
+    ensures { (i : ℕ) → marks_of.is_marked marks.new.items i ≡ true → (marks_of.is_marked marks.old.items i ≡ true) × (Contains list.now (Inner i) → ⊥) }
+{
+    for listed in list {
+        match *listed {
+            Listed::Leaf(_state) => {}
+            Listed::Inner(index) => unmark(marks, index),
+        }
+    }
 }
 
 /// What is listed and gives one of the states for some label.

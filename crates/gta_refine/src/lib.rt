@@ -6,21 +6,18 @@
 #![tactic(auto)]
 
 mod cascade;
-mod chosen;
-mod cut;
 mod explore;
 mod form;
 mod givers;
-mod lists;
 mod numbers;
 mod reach;
 mod rounds;
 mod rows;
 mod scratch;
-mod split;
 mod sweep;
 mod uses;
 
-pub use form::{Form, FormSpace, FormSpaceList, NumberList};
+pub use form::{Form, FormSpace, FormSpaceList};
+pub use gta_classes::{NumberList, SpaceClasses, SpaceClassesList};
 pub use numbers::{reference, references};
-pub use rounds::{SpaceClasses, SpaceClassesList, refine};
+pub use rounds::refine;

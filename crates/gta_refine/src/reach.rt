@@ -4,10 +4,10 @@ ghost use Rattle.std.specs.Prelude.{◌≡◌, ◌<◌, ◌^◌, ℕ, true, fals
 ghost use Rattle.gta_refine.specs.Form.{IsForm};
 ghost use Rattle.gta_refine.specs.Reached.{AreGenerated, AreReached, IsClosedIn};
 
-use crate::chosen::{choose, mark};
 use crate::explore::explore;
 use crate::form::Form;
 use crate::sweep::sweep;
+use gta_classes::{choose, mark};
 use plain_data::Items;
 use std::alloc::{AllocError, Global};
 

@@ -2,37 +2,22 @@
 
 ghost use Rattle.std.specs.Prelude.{◌≡◌, ◌<◌, ◌≤◌, ◌^◌, ℕ, true, false, length, map, slice_index, IfOk};
 ghost use Rattle.gta_refine.specs.Form.{IsForm};
-ghost use Rattle.gta_refine.specs.Chosen.{is_marked, AreChosen};
+ghost use Rattle.gta_classes.specs.Chosen.{is_marked, AreChosen};
 ghost use Rattle.gta_refine.specs.Rows.{kinds_in};
-ghost use Rattle.gta_refine.specs.Classes.{AreClasses, IsSplit};
-ghost use Rattle.gta_refine.specs.Refined.{part_at, opposite, child_of, bit_of, AreSingle, ArePartition, AreChildIds, IsStableAt, IsRefined, room_in, TakesRoom};
+ghost use Rattle.gta_classes.specs.Classes.{AreClasses, IsSplit};
+ghost use Rattle.gta_refine.specs.Refined.{part_at, opposite, child_of, bit_of, room_in, TakesRoom};
+ghost use Rattle.gta_refine.specs.Refined.{AreSingle, ArePartition, AreChildIds, IsStableAt, IsRefined};
 ghost use Rattle.gta_refine.specs.declared.rows.Side.TheVariants.{Left, Right};
 
 use crate::cascade::cascade;
-use crate::chosen::choose;
-use crate::form::{Form, FormSpace, NumberList};
+use crate::form::{Form, FormSpace};
 use crate::numbers::number_roots;
 use crate::reach::reach;
 use crate::rows::{Side, kinds_of, number_rows};
-use crate::split::split;
 use crate::uses::uses_of;
+use gta_classes::{SpaceClasses, SpaceClassesList, choose, split};
 use plain_data::Items;
 use std::alloc::{AllocError, Global};
-
-/// The classes of the reached states of a space.
-#[derive(Debug, Drop)]
-pub struct SpaceClasses {
-    /// For each state whether it is reached.
-    pub reached: Items<bool>,
-    /// The class of each state: a number below that of the representatives. That of a state which isn't reached says
-    /// nothing.
-    pub classes: NumberList,
-    /// For each class a reached state of it.
-    pub representatives: NumberList,
-}
-
-/// The classes of each space, in order.
-pub type SpaceClassesList = Items<SpaceClasses>;
 
 /// The number of each state, by that of its kind.
 pub(crate) fn spread(alloc: Global, kinds: &[u32], ids: &[u32]) -> Result<Vec<u32>, AllocError>

@@ -3,7 +3,7 @@
 ghost use Rattle.std.specs.Prelude.{◌≡◌, ◌<◌, ℕ, List, Some, length, slice_index, slice_set, IfOk};
 ghost use Rattle.bdd_nodes.specs.declared.node_ref.NodeRef.{NodeRef};
 ghost use Rattle.gta_refine.specs.Form.{root_in};
-ghost use Rattle.gta_refine.specs.Chosen.{IsAmong};
+ghost use Rattle.gta_classes.specs.Chosen.{IsAmong};
 ghost use Rattle.gta_refine.specs.Rows.{kinds_in, cell_at, HasRootAt, row_of, AreIds};
 ghost use Rattle.gta_refine.specs.Numbered.{number_at};
 ghost use Rattle.gta_refine.specs.Firsts.{first_of, AreFirsts, KeepsFirsts};
@@ -11,6 +11,7 @@ ghost use Rattle.gta_refine.specs.Firsts.{first_of, AreFirsts, KeepsFirsts};
 use crate::form::FormSpace;
 use bdd_list::Listed;
 use bdd_nodes::NodeRef;
+use gta_classes::set_at;
 use std::alloc::{AllocError, Global};
 use std::collections::HashMap;
 
@@ -116,15 +117,6 @@ pub(crate) fn above(numbers: &[u32]) -> usize
         }
     }
     above
-}
-
-/// Puts a number at a place.
-#[inline]
-pub(crate) fn set_at(numbers: &mut Vec<u32>, place: u32, number: u32)
-    requires { place < length numbers.old.items }
-    ensures { numbers.new.items ≡ slice_set numbers.old.items place number }
-{
-    numbers[place as usize] = number;
 }
 
 /// A number for each class of a child's states: equal ones exactly where the states have equal rows.

@@ -5,7 +5,7 @@ ghost use Rattle.gta_refine.specs.Refined.{part_at};
 ghost use Rattle.gta_refine.specs.Scratch.{IsReady};
 
 use crate::form::Form;
-use crate::rounds::SpaceClasses;
+use gta_classes::SpaceClasses;
 use std::alloc::{AllocError, Global};
 
 /// Marks and numbers, none of them set between two cuts.
@@ -36,12 +36,19 @@ fn most_states(spaces: &[SpaceClasses]) -> usize
 fn most_listed(form: &Form) -> usize {
     let mut most = 1;
     for space in form.spaces.as_slice() {
-        most = most
-            .max(space.listing.nodes.len())
-            .max(space.rows.len())
-            .max(space.columns.len());
+        raise(&mut most, space.listing.nodes.len());
+        raise(&mut most, space.rows.len());
+        raise(&mut most, space.columns.len());
     }
     most
+}
+
+/// Makes a number at least as large as another one.
+#[inline]
+fn raise(most: &mut usize, many: usize) {
+    if *most < many {
+        *most = many;
+    }
 }
 
 /// Nothing is set.

@@ -4,12 +4,12 @@ ghost use Rattle.std.specs.Prelude.{◌≡◌, ◌<◌, ℕ, Bool, List, false, 
 ghost use Rattle.labels.specs.Labels.{Label};
 ghost use Rattle.bdd_list.specs.Listing.{AreOrdered};
 ghost use Rattle.gta_refine.specs.Form.{step_in, root_in, cell_in};
-ghost use Rattle.gta_refine.specs.Chosen.{IsAmong};
+ghost use Rattle.gta_classes.specs.Chosen.{IsAmong};
 ghost use Rattle.gta_refine.specs.Reached.{with_node, with_state, HasRoot, IsSwept, Sweeps, Grown, IsTouched, AreSidesTouched};
 
-use crate::chosen::mark;
 use crate::form::FormSpace;
 use bdd_list::Listed;
+use gta_classes::mark;
 use plain_data::Items;
 use std::alloc::{AllocError, Global};
 

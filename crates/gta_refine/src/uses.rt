@@ -5,13 +5,16 @@ ghost use Rattle.gta_refine.specs.declared.form.FormSpace.{FormSpace};
 ghost use Rattle.gta_refine.specs.Form.{IsForm};
 ghost use Rattle.gta_refine.specs.Refined.{ArePartition};
 ghost use Rattle.gta_refine.specs.Rows.{HasRootAt};
-ghost use Rattle.gta_refine.specs.Uses.{above_of, IsAddedAbove, AreAbove, HasSide, IsRoot, side_of, AddsOwner, AreOwners, AreLikes, AreSideUses, IsUses, AreUses};
+ghost use Rattle.gta_refine.specs.Uses.{above_of, IsAddedAbove, AreAbove, HasSide, IsRoot, side_of};
+ghost use Rattle.gta_refine.specs.Uses.{AddsOwner, AreOwners, AreLikes, AreSideUses, IsUses, AreUses};
 
-use crate::form::{Form, FormSpace, NumberList};
-use crate::lists::{NumberLists, add_at, empty_lists, number_of, numbers_at};
-use crate::rounds::{SpaceClasses, child, choose_of, other, part_of};
+use crate::form::{Form, FormSpace};
+use crate::rounds::{child, choose_of, other, part_of};
 use crate::rows::{Side, above, cell_of, kinds_of};
 use bdd_list::{Listed, ListedNode};
+use gta_classes::{
+    NumberList, NumberLists, SpaceClasses, add_at, empty_lists, number_of, numbers_at,
+};
 use plain_data::Items;
 use std::alloc::{AllocError, Global};
 

@@ -1,6 +1,6 @@
 //! Quantifiers of unused tracks left out.
 
-ghost use Rattle.std.specs.Prelude.{◌≡◌, Some, IsSome, IfOk, OnOk, map, reverse};
+ghost use Rattle.std.specs.Prelude.{◌≡◌, ◌∷◌, Some, IsSome, IfOk, OnOk, map, reverse};
 ghost use Rattle.ws2s_pass.specs.Folding.{stepped};
 ghost use Rattle.ws2s_pass.specs.Using.{quantified_where_free, used_node, without_unused};
 ghost use Rattle.ws2s_pass.specs.Rewriting.{IsRewriting};
@@ -36,28 +36,36 @@ fn use_symbol(alloc: Global, parts: &mut Vec<Part>, symbol: Symbol) -> Result<()
     ensures { OnOk result (stepped used_node symbol (map (λ part. part.formula) (reverse parts.old.items))
         ≡ Some (map (λ part. part.formula) (reverse parts.new.items))) }
 {
-    let made = match symbol {
-        Symbol::Sub(x, y) => atom(alloc, Formula::Sub(x, y), x, y)?,
-        Symbol::Single(x) => atom(alloc, Formula::Single(x), x, x)?,
-        Symbol::Succ0(x, y) => atom(alloc, Formula::Succ0(x, y), x, y)?,
-        Symbol::Succ1(x, y) => atom(alloc, Formula::Succ1(x, y), x, y)?,
-        Symbol::Root(x) => atom(alloc, Formula::Root(x), x, x)?,
+    let made = made_by(alloc, parts, symbol)?;
+    parts.push(made)?;
+    Ok(())
+}
+
+/// What a symbol makes of the last parts, which are taken.
+fn made_by(alloc: Global, parts: &mut Vec<Part>, symbol: Symbol) -> Result<Part, AllocError>
+    requires { IsSome (stepped used_node symbol (map (λ part. part.formula) (reverse parts.old.items))) }
+    ensures { IfOk result (λ made. stepped used_node symbol (map (λ part. part.formula) (reverse parts.old.items))
+        ≡ Some (made.formula ∷ map (λ part. part.formula) (reverse parts.new.items))) }
+{
+    match symbol {
+        Symbol::Sub(x, y) => atom(alloc, Formula::Sub(x, y), x, y),
+        Symbol::Single(x) => atom(alloc, Formula::Single(x), x, x),
+        Symbol::Succ0(x, y) => atom(alloc, Formula::Succ0(x, y), x, y),
+        Symbol::Succ1(x, y) => atom(alloc, Formula::Succ1(x, y), x, y),
+        Symbol::Root(x) => atom(alloc, Formula::Root(x), x, x),
         Symbol::And => {
             let right = parts.pop().unwrap();
             let left = parts.pop().unwrap();
-            conjunction(alloc, left, right)?
+            let made = conjunction(alloc, left, right)?;
+            Ok(made)
         }
         Symbol::Not => {
             let inner = parts.pop().unwrap();
-            negation(alloc, inner)?
+            let made = negation(alloc, inner)?;
+            Ok(made)
         }
-        Symbol::Ex2(t) => {
-            let inner = parts.pop().unwrap();
-            quantified(alloc, t, inner)?
-        }
-    };
-    parts.push(made)?;
-    Ok(())
+        Symbol::Ex2(t) => quantified(alloc, t, parts.pop().unwrap()),
+    }
 }
 
 fn quantified(alloc: Global, track: Track, inner: Part) -> Result<Part, AllocError>

@@ -4,7 +4,7 @@ use Rattle.std.specs.Prelude.{slice_index_or}
 use Rattle.bdd_nodes.specs.Shelf.{Contents, count_of, tables_added}
 use Rattle.gta_core.specs.Auto.{automaton_of}
 use Rattle.gta_room.specs.Progress.{Adds, IsStuck}
-use Rattle.gta_refine.specs.declared.rounds.SpaceClasses.{SpaceClasses}
+use Rattle.gta_classes.specs.declared.part.SpaceClasses.{SpaceClasses}
 use Rattle.gta_refine.specs.Refined.{part_at}
 use Rattle.gta_minimise.specs.Quotient.{IsUnderClasses, AreQuotientSpaces}
 use Rattle.gta_minimise.specs.Minimised.{HasMinimisedSize}

@@ -2,10 +2,10 @@
 use Rattle.std.proofs.Common.{◌≡◌, ◌++◌, Contains, ap, ℕ, List, Option, [], ◌∷◌, take, get_or, IsSome, sym, ◌∙◌, subst, arith}
 use Rattle.std.proofs.lemmas.List.{take_more}
 use Rattle.bdd_nodes.specs.declared.node_ref.NodeRef.{NodeRef}
-use Rattle.gta_project.specs.Subsets.{set_step}
+use Rattle.gta_subsets.specs.Subsets.{set_step}
 use Rattle.gta_core.specs.Auto.{automaton_of}
-use Rattle.gta_project.specs.Classes.{HaveClasses}
-use Rattle.gta_project.specs.Shorts.{rows_in, columns_in, AreShorts}
+use Rattle.gta_subsets.specs.Classes.{HaveClasses}
+use Rattle.gta_subsets.specs.Shorts.{rows_in, columns_in, AreShorts}
 use Rattle.gta_project.specs.Filling.{Stepping, IsRow, AreCells}
 use Rattle.gta_project.proofs.ShelfLemmas.{root_at-kept, table_of-kept}
 use Rattle.gta_project.proofs.JoinsLemmas.{Joins-none, AreCells-more}

@@ -1,9 +1,9 @@
 use Rattle.std.proofs.Common.{All, take}
 use Rattle.bdd_nodes.specs.Shelf.{IsValid}
 use Rattle.bdd_walk.specs.Fits.{FitsSets}
-use Rattle.gta_project.specs.Subsets.{set_step}
+use Rattle.gta_subsets.specs.Subsets.{set_step}
 use Rattle.gta_core.specs.Auto.{automaton_of}
-use Rattle.gta_project.specs.Numbers.{numbered, AreNumbers}
+use Rattle.gta_subsets.specs.Numbers.{numbered, AreNumbers}
 use Rattle.gta_project.specs.Filling.{Joins, AreCells}
 use Rattle.gta_project.proofs.filling.fill.Given as goal
 

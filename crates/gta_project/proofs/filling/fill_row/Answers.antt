@@ -4,7 +4,7 @@ use Rattle.std.proofs.lemmas.List.{take_more}
 use Rattle.std.proofs.lemmas.Option.{slice_get-get_or}
 use Rattle.bdd_nodes.specs.declared.node_ref.NodeRef.{NodeRef}
 use Rattle.bdd_nodes.specs.Shelf.{IsValid}
-use Rattle.gta_project.specs.Subsets.{set_step}
+use Rattle.gta_subsets.specs.Subsets.{set_step}
 use Rattle.gta_core.specs.Auto.{automaton_of}
 use Rattle.gta_project.specs.Filling.{Stepping, IsCell, IsRow}
 use Rattle.gta_project.proofs.ShelfLemmas.{root_at-kept, table_of-kept}

@@ -2,9 +2,9 @@
 use Rattle.std.proofs.Common.{◌≡◌, ℕ, Option, Some, Contains, IsSome, sym, ◌∙◌, subst}
 use Rattle.bdd_nodes.specs.declared.node_ref.NodeRef.{NodeRef}
 use Rattle.gta_core.specs.Auto.{root_at}
-use Rattle.gta_project.proofs.RootsLemmas.{rooting-is, found-are, AreRoots-valid}
-use Rattle.gta_project.proofs.ClosingLemmas.{some-is}
-use Rattle.gta_project.proofs.ShortsLemmas.{known-short, AreRoots-short}
+use Rattle.gta_subsets.proofs.RootsLemmas.{rooting-is, found-are, AreRoots-valid}
+use Rattle.gta_subsets.proofs.ClosingLemmas.{some-is}
+use Rattle.gta_subsets.proofs.ShortsLemmas.{known-short, AreRoots-short}
 use Rattle.gta_project.proofs.FillingLemmas.{Joins-one, IsCell-one, ExceedsCells-one}
 use Rattle.gta_project.proofs.filling.join_cell.Goals as goal
 

@@ -1,7 +1,7 @@
 -- Once in each space.
 use Rattle.std.proofs.Common.{ℕ, List, ◌∙◌, arith}
 use Rattle.gta_theory.specs.Automata.{Automaton}
-use Rattle.gta_project.specs.Subsets.{subsets}
+use Rattle.gta_subsets.specs.Subsets.{subsets}
 use Rattle.gta_core.specs.Auto.{automaton_of}
 use Rattle.gta_project.specs.Building.{AreSpaces}
 use Rattle.gta_project.specs.Growing.{HasSeen}

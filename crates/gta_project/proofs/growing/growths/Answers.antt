@@ -1,6 +1,6 @@
 use Rattle.std.proofs.Common.{◌≡◌, List, [], ◌∷◌, length, length-append, Option, Some, None, slice_get, sym, ◌∙◌, ap, subst, inl, inr, arith}
 use Rattle.gta_project.specs.declared.growing.Growth.{Growth}
-use Rattle.gta_project.proofs.NumbersLemmas.{get-snoc}
+use Rattle.gta_subsets.proofs.NumbersLemmas.{get-snoc}
 use Rattle.gta_project.proofs.GrowingLemmas.{IsNew, HasSeen-none}
 use Rattle.gta_project.proofs.growing.growths.Goals as goal
 

@@ -4,11 +4,12 @@ use Rattle.std.specs.Prelude.{slice_set}
 use Rattle.bdd_walk.specs.Fits.{FitsSets}
 use Rattle.gta_theory.specs.Guides.{left, right}
 use Rattle.gta_core.specs.Auto.{automaton_of}
-use Rattle.gta_project.specs.Subsets.{subsets}
-use Rattle.gta_project.specs.Numbers.{numbered}
+use Rattle.gta_subsets.specs.Subsets.{subsets}
+use Rattle.gta_subsets.specs.Numbers.{numbered}
 use Rattle.gta_project.proofs.ShelfLemmas.{generated-below}
 use Rattle.gta_project.proofs.PartLemmas.{get-at, ChangesSpace-at, FitAll-set}
-use Rattle.gta_project.proofs.GrowingLemmas.{on-ok, Goes-fill, AreSpaces-fill, LacksRoom-fill}
+use Rattle.gta_subsets.proofs.ShortsLemmas.{on-ok}
+use Rattle.gta_project.proofs.GrowingLemmas.{Goes-fill, AreSpaces-fill, LacksRoom-fill}
 use Rattle.gta_project.proofs.growing.join_sets.Goals as goal
 
 pub fill-requires-clause-known : goal.fill-requires-clause-known

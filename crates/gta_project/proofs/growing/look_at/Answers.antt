@@ -3,7 +3,7 @@ use Rattle.std.proofs.Common.{◌≡◌, ◌<◌, ◌⊎◌, ℕ, List, [], Opti
 use Rattle.std.specs.Prelude.{unwrap_or, option_map}
 use Rattle.gta_theory.specs.Guides.{left, right}
 use Rattle.gta_core.specs.Auto.{automaton_of}
-use Rattle.gta_project.specs.Subsets.{subsets}
+use Rattle.gta_subsets.specs.Subsets.{subsets}
 use Rattle.gta_project.proofs.PartLemmas.{at-child, part-at, row-inside, column-inside}
 use Rattle.gta_project.proofs.ShelfLemmas.{Contains-get}
 use Rattle.gta_core.specs.declared.part.Part.{Part}

@@ -1,8 +1,8 @@
 use Rattle.std.proofs.Common.{◌≡◌, List, [], ◌∷◌, length, length-append, Option, Some, None, slice_get, sym, ◌∙◌, ap, subst, inl, inr, arith}
 use Rattle.bdd_walk.specs.declared.set_joiner.SetJoiner.{SetJoiner}
 use Rattle.bdd_walk.specs.Fits.{FitsSets}
-use Rattle.gta_project.specs.Numbers.{numbered}
-use Rattle.gta_project.proofs.NumbersLemmas.{get-snoc}
+use Rattle.gta_subsets.specs.Numbers.{numbered}
+use Rattle.gta_subsets.proofs.NumbersLemmas.{get-snoc}
 use Rattle.gta_project.proofs.projecting.joiners.Goals as goal
 
 no-joiner : (joiner : SetJoiner) → ◌≡◌ {A = Option SetJoiner} None (Some joiner) → ⊥

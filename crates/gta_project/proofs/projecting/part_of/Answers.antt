@@ -6,8 +6,8 @@ use Rattle.std.proofs.lemmas.List.FromFn.{length-range_with_len}
 use Rattle.gta_theory.specs.Guides.{left, right}
 use Rattle.gta_core.specs.Auto.{automaton_of}
 use Rattle.gta_core.proofs.PlacingLemmas.{unwrap-inside}
-use Rattle.gta_project.specs.Subsets.{set_step, subsets}
-use Rattle.gta_project.specs.Classes.{AreClasses}
+use Rattle.gta_subsets.specs.Subsets.{set_step, subsets}
+use Rattle.gta_subsets.specs.Classes.{AreClasses}
 use Rattle.gta_project.specs.Filling.{AreCells}
 use Rattle.gta_project.proofs.BuildingLemmas.{AreGenerated-list, ExtendAll-set, AreSpaces-set, Building-set, ExceedsSteps-set}
 use Rattle.gta_project.proofs.PartLemmas.{get-at, get-set, at-child, part-at, length-set_at, ChangesSpace-at, FitAll-set, ones-inside}

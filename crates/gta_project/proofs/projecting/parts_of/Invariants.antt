@@ -1,7 +1,7 @@
 use Rattle.std.proofs.Common.{◌≡◌, length, All}
 use Rattle.bdd_nodes.specs.Shelf.{Contents, IsValid}
 use Rattle.bdd_nodes.specs.Changes.{Keeps, SameTables}
-use Rattle.gta_project.specs.Subsets.{subsets}
+use Rattle.gta_subsets.specs.Subsets.{subsets}
 use Rattle.gta_core.specs.Auto.{automaton_of}
 use Rattle.gta_project.specs.Building.{AreSpaces, FitAll, ExtendAll, Building, AreParts}
 use Rattle.gta_project.proofs.projecting.parts_of.Given as goal

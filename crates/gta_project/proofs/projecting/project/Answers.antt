@@ -8,7 +8,7 @@ use Rattle.gta_theory.specs.Assignments.{PositionSet, IsFiniteSet, replace}
 use Rattle.gta_theory.specs.Automata.{Accepts}
 use Rattle.gta_theory.proofs.SubsetLemmas.{Accepts-subset}
 use Rattle.gta_core.specs.Auto.{AutoView, states_of, is_accepting, automaton_of, IsAuto, IsWhole}
-use Rattle.gta_project.specs.Subsets.{AreInitial}
+use Rattle.gta_subsets.specs.Subsets.{AreInitial}
 use Rattle.gta_project.specs.Project.{IsSubsetOf}
 use Rattle.gta_project.proofs.PartLemmas.{get-at}
 use Rattle.gta_project.proofs.FinalLemmas.{member_of, IsWhole-made, IsAuto-made, IsSubset-made}

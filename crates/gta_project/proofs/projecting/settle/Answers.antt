@@ -2,7 +2,7 @@
 use Rattle.std.proofs.Common.{◌≡◌, ℕ, List, inl, sym, ◌∙◌, subst, arith}
 use Rattle.std.proofs.lemmas.Bool.{false≢true}
 use Rattle.gta_theory.specs.Automata.{Automaton}
-use Rattle.gta_project.specs.Subsets.{subsets}
+use Rattle.gta_subsets.specs.Subsets.{subsets}
 use Rattle.gta_core.specs.Auto.{automaton_of}
 use Rattle.gta_project.specs.Building.{AreSpaces, AreParts}
 use Rattle.gta_project.specs.Growing.{HaveSeen}

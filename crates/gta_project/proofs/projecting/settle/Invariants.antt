@@ -1,4 +1,4 @@
-use Rattle.gta_project.specs.Subsets.{subsets}
+use Rattle.gta_subsets.specs.Subsets.{subsets}
 use Rattle.gta_core.specs.Auto.{automaton_of}
 use Rattle.gta_project.specs.Building.{FitAll, Building}
 use Rattle.gta_project.specs.Growing.{HaveSeen, room_left}

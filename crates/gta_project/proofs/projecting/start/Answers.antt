@@ -1,10 +1,10 @@
 use Rattle.std.proofs.Common.{◌≡◌, ◌<◌, ℕ, List, [], ◌∷◌, length, length-append, Option, Some, slice_get, sym, ◌∙◌, ap, subst, inl, inr, arith}
 use Rattle.std.proofs.lemmas.Option.{slice_get-get_or}
 use Rattle.bdd_walk.specs.Sets.{IsSet}
-use Rattle.gta_project.specs.Numbers.{Grows}
-use Rattle.gta_project.specs.Subsets.{subsets}
+use Rattle.gta_subsets.specs.Numbers.{Grows}
+use Rattle.gta_subsets.specs.Subsets.{subsets}
 use Rattle.gta_project.specs.Building.{IsSpaceOf}
-use Rattle.gta_project.proofs.NumbersLemmas.{get-snoc}
+use Rattle.gta_subsets.proofs.NumbersLemmas.{get-snoc}
 use Rattle.gta_project.proofs.StartLemmas.{IsSpaceOf-start}
 use Rattle.gta_project.proofs.projecting.start.Goals as goal
 

@@ -1,6 +1,6 @@
 use Rattle.std.proofs.Common.{◌≡◌, ℕ, List, length, Some, slice_get}
 use Rattle.gta_theory.specs.Automata.{Automaton}
-use Rattle.gta_project.specs.Subsets.{subsets}
+use Rattle.gta_subsets.specs.Subsets.{subsets}
 use Rattle.gta_project.specs.Building.{IsSpaceOf}
 use Rattle.gta_project.proofs.projecting.start.Given as goal
 

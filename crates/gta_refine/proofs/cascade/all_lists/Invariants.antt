@@ -1,7 +1,8 @@
 use Rattle.std.proofs.Common.{◌≡◌, ℕ, Some, vec_len}
 use Rattle.std.specs.Prelude.{slice_get}
 use Rattle.gta_refine.specs.Refined.{part_at}
-use Rattle.gta_refine.specs.Cuts.{ClassLists, Covers}
+use Rattle.gta_classes.specs.Cuts.{Covers}
+use Rattle.gta_refine.specs.Cuts.{ClassLists}
 use Rattle.gta_refine.proofs.cascade.all_lists.Given as goal
 
 abbrev pub invariant-loop-s : goal.invariant-loop-s

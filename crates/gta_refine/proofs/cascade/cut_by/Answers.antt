@@ -2,15 +2,16 @@
 use Rattle.std.proofs.Common.{◌≡◌, ◌<◌, ℕ, List, length, Some, sym, ◌∙◌, ap, subst, arith}
 use Rattle.std.specs.Prelude.{Contains, slice_get, true}
 use Rattle.std.proofs.lemmas.Option.{slice_get-get_or}
-use Rattle.gta_refine.specs.declared.rounds.SpaceClasses.{SpaceClasses}
-use Rattle.gta_refine.specs.Classes.{AreClasses}
-use Rattle.gta_refine.specs.Cuts.{Covers, ClassLists, IsCutAt}
+use Rattle.gta_classes.specs.declared.part.SpaceClasses.{SpaceClasses}
+use Rattle.gta_classes.specs.Classes.{AreClasses}
+use Rattle.gta_classes.specs.Cuts.{Covers}
+use Rattle.gta_refine.specs.Cuts.{ClassLists, IsCutAt}
 use Rattle.gta_refine.specs.Givers.{AreGivers}
 use Rattle.gta_refine.specs.Refined.{part_at, is_reached_in, child_of}
 use Rattle.gta_refine.proofs.ReachLemmas.{many_spaces}
 use Rattle.gta_refine.proofs.RefineLemmas.{child-inside, child-classes}
 use Rattle.gta_refine.proofs.CutLemmas.{listed-reached, ArePartition-cut_at, room-cut_at}
-use Rattle.gta_refine.specs.Scratch.{AreZero}
+use Rattle.gta_classes.specs.Marks.{AreZero}
 use Rattle.gta_refine.proofs.cascade.cut_by.Goals as goal
 
 pub givers-requires-clause-uses : goal.givers-requires-clause-uses
@@ -47,7 +48,8 @@ cut_at-requires-clause-reached c = λ q there.
     subst (λ (k : ℕ). is_reached_in spaces k q ≡ true) (sym c.child.ensures)
     (listed-reached c.args.form.now c.requires.form spaces c.requires.partition c.args.s c.space-space.result.now c.space-space.ensures c.args.side
     c.args.class listed
-    (subst (λ (xs : List SpaceClasses). AreGivers c.args.form.now xs c.args.s c.args.side c.args.class listed) c.deref.ensures.value c.in_ok-listed.ensures.givers)
+    (subst (λ (xs : List SpaceClasses). AreGivers c.args.form.now xs c.args.s c.args.side c.args.class listed)
+    c.deref.ensures.value c.in_ok-listed.ensures.givers)
     q (subst (λ (xs : List ℕ). Contains xs q) c.deref-3.ensures.value there))
 
 pub returns-clause-partition : goal.returns-clause-partition
@@ -57,7 +59,8 @@ returns-clause-partition c =
     let listed = c.in_ok-listed.listed.items in
     ArePartition-cut_at c.args.form.now c.requires.form spaces c.requires.partition c.args.s c.space-space.result.now c.space-space.ensures c.args.side
     c.args.class listed
-    (subst (λ (xs : List SpaceClasses). AreGivers c.args.form.now xs c.args.s c.args.side c.args.class listed) c.deref.ensures.value c.in_ok-listed.ensures.givers)
+    (subst (λ (xs : List SpaceClasses). AreGivers c.args.form.now xs c.args.s c.args.side c.args.class listed)
+    c.deref.ensures.value c.in_ok-listed.ensures.givers)
     new
     (subst (λ (xs : List ℕ). IsCutAt spaces (child_of c.space-space.result.now c.args.side) xs new) c.deref-3.ensures.value
     (subst (λ (k : ℕ). IsCutAt spaces k c.deref-3.result.now new) c.child.ensures c.in_ok-cut_at.ensures.cut))
@@ -69,7 +72,8 @@ returns-clause-room c =
     let listed = c.in_ok-listed.listed.items in
     room-cut_at c.args.form.now c.requires.form spaces c.requires.partition c.args.s c.space-space.result.now c.space-space.ensures c.args.side
     c.args.class listed
-    (subst (λ (xs : List SpaceClasses). AreGivers c.args.form.now xs c.args.s c.args.side c.args.class listed) c.deref.ensures.value c.in_ok-listed.ensures.givers)
+    (subst (λ (xs : List SpaceClasses). AreGivers c.args.form.now xs c.args.s c.args.side c.args.class listed)
+    c.deref.ensures.value c.in_ok-listed.ensures.givers)
     new
     (subst (λ (xs : List ℕ). IsCutAt spaces (child_of c.space-space.result.now c.args.side) xs new) c.deref-3.ensures.value
     (subst (λ (k : ℕ). IsCutAt spaces k c.deref-3.result.now new) c.child.ensures c.in_ok-cut_at.ensures.cut))

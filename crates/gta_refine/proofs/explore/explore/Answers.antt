@@ -4,7 +4,7 @@ use Rattle.std.specs.Prelude.{All, Contains}
 use Rattle.std.proofs.lemmas.List.Elements.{All-head, All-tail}
 use Rattle.gta_refine.specs.declared.rows.Side.TheVariants.{Left, Right}
 use Rattle.gta_refine.specs.declared.explore.Waiting.{Waiting}
-use Rattle.gta_refine.specs.Lists.{list_at}
+use Rattle.gta_classes.specs.Lists.{list_at}
 use Rattle.gta_refine.specs.Exploring.{IsWaiting}
 use Rattle.gta_refine.proofs.ExploreLemmas.{AreKept-none}
 use Rattle.gta_refine.proofs.explore.explore.Goals as goal

@@ -1,5 +1,5 @@
 use Rattle.std.proofs.Common.{ℕ}
-use Rattle.gta_refine.specs.Lists.{list_at}
+use Rattle.gta_classes.specs.Lists.{list_at}
 use Rattle.gta_refine.specs.Exploring.{AreSpaces}
 use Rattle.gta_refine.proofs.explore.parent_spaces.Given as goal
 

@@ -1,8 +1,8 @@
 -- One space more.
 use Rattle.std.proofs.Common.{List, Bool, sym, subst}
-use Rattle.gta_refine.specs.Scratch.{IsClear}
+use Rattle.gta_classes.specs.Marks.{IsClear}
 use Rattle.gta_refine.specs.Exploring.{AreClear}
-use Rattle.gta_refine.proofs.ScratchLemmas.{IsClear-replicate}
+use Rattle.gta_classes.proofs.MarksLemmas.{IsClear-replicate}
 use Rattle.gta_refine.proofs.ExploreLemmas.{AreClear-none, AreClear-push}
 use Rattle.gta_refine.proofs.explore.unmarked_nodes.Goals as goal
 

@@ -7,7 +7,7 @@ use Rattle.bdd_list.specs.declared.listing.Listed.TheVariants.{Leaf, Inner}
 use Rattle.gta_refine.specs.Uses.{above_of}
 use Rattle.gta_refine.specs.Givers.{AddsNodes}
 use Rattle.gta_refine.proofs.ClimbLemmas.{Climbs, Climbs-start, Climbs-step, AreClimbed-all}
-use Rattle.gta_refine.proofs.ScratchLemmas.{IsClear-none}
+use Rattle.gta_classes.proofs.MarksLemmas.{IsClear-none}
 use Rattle.gta_refine.proofs.givers.climb.Goals as goal
 
 pub loop-at-init : goal.loop-at-init

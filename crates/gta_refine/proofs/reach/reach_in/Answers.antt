@@ -6,7 +6,7 @@ use Rattle.std.proofs.lemmas.Option.{slice_get_read}
 use Rattle.gta_theory.specs.Guides.{left, right}
 use Rattle.gta_refine.specs.declared.form.FormSpace.{FormSpace}
 use Rattle.gta_refine.specs.Form.{guide_of, step_in}
-use Rattle.gta_refine.specs.Chosen.{IsAmong, AreChosen}
+use Rattle.gta_classes.specs.Chosen.{IsAmong, AreChosen}
 use Rattle.gta_refine.specs.Reached.{IsSwept, IsClosedIn}
 use Rattle.gta_refine.proofs.ReachLemmas.{left-at, right-at, left-inside, right-inside, left-rows, right-columns, left-few, right-few, has_root}
 use Rattle.gta_refine.proofs.ReachLemmas.{step-below, AreGenerated-swept, IsClosedIn-swept}

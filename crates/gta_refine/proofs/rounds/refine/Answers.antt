@@ -1,6 +1,6 @@
 -- Refinement has come to an end.
 use Rattle.std.proofs.Common.{List, sym, subst}
-use Rattle.gta_refine.specs.declared.rounds.SpaceClasses.{SpaceClasses}
+use Rattle.gta_classes.specs.declared.part.SpaceClasses.{SpaceClasses}
 use Rattle.gta_refine.specs.Refined.{IsRefined}
 use Rattle.gta_refine.proofs.RefineLemmas.{IsRefined-stable}
 use Rattle.gta_refine.proofs.rounds.refine.Goals as goal

@@ -1,7 +1,7 @@
 -- Nothing is set.
 use Rattle.std.proofs.Common.{ℕ, Bool, List, sym, subst, arith}
-use Rattle.gta_refine.specs.Scratch.{IsClear, AreZero}
-use Rattle.gta_refine.proofs.ScratchLemmas.{IsClear-replicate, AreZero-replicate}
+use Rattle.gta_classes.specs.Marks.{IsClear, AreZero}
+use Rattle.gta_classes.proofs.MarksLemmas.{IsClear-replicate, AreZero-replicate}
 use Rattle.gta_refine.proofs.scratch.scratch_of.Goals as goal
 
 pub returns : goal.returns

@@ -3,7 +3,7 @@ use Rattle.std.proofs.Common.{◌≡◌, ℕ, Bool, false, true, List, length, s
 use Rattle.std.specs.Prelude.{replicate}
 use Rattle.std.proofs.lemmas.List.{length-replicate}
 use Rattle.gta_refine.specs.Form.{cell_in, root_in}
-use Rattle.gta_refine.specs.Chosen.{is_marked}
+use Rattle.gta_classes.specs.Chosen.{is_marked}
 use Rattle.gta_refine.proofs.SweepLemmas.{Sweeps-start, none-marked, IsTouched-grown, IsSwept-all}
 use Rattle.gta_refine.proofs.sweep.sweep.Goals as goal
 

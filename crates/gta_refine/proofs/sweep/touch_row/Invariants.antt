@@ -1,7 +1,7 @@
 use Rattle.std.proofs.Common.{◌≡◌, ◌<◌, ℕ, List, Bool, Some}
 use Rattle.std.specs.Prelude.{slice_get}
 use Rattle.gta_refine.specs.Form.{cell_in, root_in}
-use Rattle.gta_refine.specs.Chosen.{IsAmong}
+use Rattle.gta_classes.specs.Chosen.{IsAmong}
 use Rattle.gta_refine.specs.Reached.{Sweeps, Grown, IsTouched}
 use Rattle.gta_refine.proofs.sweep.touch_row.Given as goal
 

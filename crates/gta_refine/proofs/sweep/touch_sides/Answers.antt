@@ -3,7 +3,7 @@ use Rattle.std.proofs.Common.{◌≡◌, suc, ◌-◌, ◌<◌, List, true, fals
 use Rattle.std.proofs.lemmas.List.{get_or_read}
 use Rattle.bdd_list.specs.declared.listing.ListedNode.{ListedNode}
 use Rattle.bdd_list.specs.Listing.{node_at}
-use Rattle.gta_refine.specs.Chosen.{is_marked}
+use Rattle.gta_classes.specs.Chosen.{is_marked}
 use Rattle.gta_refine.specs.Reached.{with_node, with_state, AreSidesTouched}
 use Rattle.gta_refine.proofs.SweepLemmas.{Grown-trans, Grown-step, Sweeps-touch, given-low, given-high, AreSidesTouched-node}
 use Rattle.gta_refine.proofs.sweep.touch_sides.Goals as goal

@@ -1,7 +1,7 @@
 -- A state that is marked, or unknown, changes nothing.
 use Rattle.std.proofs.Common.{◌≡◌, true, Some, None}
 use Rattle.std.specs.Prelude.{slice_get}
-use Rattle.gta_refine.proofs.ChosenLemmas.{set-known, set-unknown}
+use Rattle.gta_classes.proofs.ChosenLemmas.{set-known, set-unknown}
 use Rattle.gta_refine.proofs.sweep.touch_state.Goals as goal
 
 pub returns-else-not-is_found-clause-states : goal.returns-else-not-is_found-clause-states

@@ -1,7 +1,7 @@
 -- One state beside after the other.
 use Rattle.std.proofs.Common.{◌≡◌, ℕ, length, ◌∙◌, subst, arith}
 use Rattle.std.specs.Prelude.{slice_index}
-use Rattle.gta_refine.specs.Lists.{IsAdded}
+use Rattle.gta_classes.specs.Lists.{IsAdded}
 use Rattle.gta_refine.specs.Rows.{cell_at}
 use Rattle.gta_refine.proofs.UsesLemmas.{OwnerBelow, OwnerBelow-next, AddsOwner-all}
 use Rattle.gta_refine.proofs.uses.add_owner.Goals as goal

@@ -1,7 +1,7 @@
 -- One state after the other.
 use Rattle.std.proofs.Common.{◌≡◌, ◌+◌, ℕ, List, length, sym, ap, subst, arith}
 use Rattle.std.specs.Prelude.{slice_index}
-use Rattle.gta_refine.specs.Lists.{IsAdded}
+use Rattle.gta_classes.specs.Lists.{IsAdded}
 use Rattle.gta_refine.specs.Uses.{AreLikes}
 use Rattle.gta_refine.proofs.UsesLemmas.{LikesBelow, LikesBelow-none, LikesBelow-skip, LikesBelow-next, AreLikes-all}
 use Rattle.gta_refine.proofs.uses.likes_of.Goals as goal

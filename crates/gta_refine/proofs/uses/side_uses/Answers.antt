@@ -2,15 +2,15 @@
 use Rattle.std.proofs.Common.{◌≡◌, ◌<◌, ◌≤◌, ◌^◌, ℕ, Bool, List, Some, length, sym, ◌∙◌, ap, subst, arith}
 use Rattle.std.specs.Prelude.{Contains, nat_lt}
 use Rattle.gta_refine.specs.declared.form.FormSpace.{FormSpace}
-use Rattle.gta_refine.specs.declared.rounds.SpaceClasses.{SpaceClasses}
+use Rattle.gta_classes.specs.declared.part.SpaceClasses.{SpaceClasses}
 use Rattle.gta_refine.specs.declared.rows.Side.{Side}
 use Rattle.gta_refine.specs.declared.uses.SideUses.{SideUses}
 use Rattle.gta_refine.specs.Form.{guide_of}
-use Rattle.gta_refine.specs.Chosen.{AreChosen}
+use Rattle.gta_classes.specs.Chosen.{AreChosen}
 use Rattle.gta_refine.specs.Rows.{kinds_in}
 use Rattle.gta_refine.specs.Uses.{AreOwners, AreLikes, AreSideUses}
 use Rattle.gta_refine.specs.Refined.{part_at, child_of, child_at, opposite}
-use Rattle.gta_refine.proofs.ListsLemmas.{Contains-among}
+use Rattle.gta_classes.proofs.ListsLemmas.{Contains-among}
 use Rattle.gta_refine.proofs.RefineLemmas.{child-inside, child-kinds, child-few, child-is, child-chosen, has_root-at}
 use Rattle.gta_refine.proofs.UsesLemmas.{AreSideUses-chosen}
 use Rattle.gta_refine.proofs.uses.side_uses.Goals as goal
@@ -103,4 +103,5 @@ returns c = λ other_space other_at.
     let same : Some space ≡ Some other_space = sym c.space-space.ensures ∙ other_at in
     let is : space ≡ other_space = cc in
     subst (λ (p : FormSpace). AreSideUses form c.args.s p side uses) is
-    (AreSideUses-chosen form c.requires.form spaces c.requires.partition c.args.s space c.space-space.ensures side own beside uses chosen chosen_beside owned liked)
+    (AreSideUses-chosen form c.requires.form spaces c.requires.partition c.args.s space c.space-space.ensures side own beside uses
+    chosen chosen_beside owned liked)

@@ -2,7 +2,7 @@ use Rattle.std.proofs.Common.{◌≡◌, ℕ, List, Option, Some, inl, inr, refl
 use Rattle.std.specs.Prelude.{map, slice_index}
 use Rattle.bdd_walk.specs.Sets.{IsSet}
 use Rattle.bdd_walk.proofs.SetsLemmas.{set_of-twice}
-use Rattle.gta_project.specs.Numbers.{number_in, Grows}
+use Rattle.gta_subsets.specs.Numbers.{number_in, Grows}
 use Rattle.gta_project.proofs.KeyedLemmas.{IsKeyed-more, IsKeyed-same}
 use Rattle.gta_project.proofs.GrowingLemmas.{contains-at, Notes-only}
 use Rattle.gta_project.proofs.growing.Seen.look.Goals as goal

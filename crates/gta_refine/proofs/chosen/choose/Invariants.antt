@@ -1,5 +1,0 @@
-use Rattle.gta_refine.proofs.ChosenLemmas.{ChosenBelow}
-use Rattle.gta_refine.proofs.chosen.choose.Given as goal
-
-abbrev pub invariant-loop-state : goal.invariant-loop-state
-invariant-loop-state l = ChosenBelow l.classes l.reached l.seen.items l.chosen.items l.state

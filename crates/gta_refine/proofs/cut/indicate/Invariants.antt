@@ -1,9 +1,0 @@
-use Rattle.std.proofs.Common.{◌≡◌, length}
-use Rattle.gta_refine.proofs.CutLemmas.{IsIndicatorBelow}
-use Rattle.gta_refine.proofs.cut.indicate.Given as goal
-
-abbrev pub invariant-loop-state : goal.invariant-loop-state
-invariant-loop-state l = record {
-  many : length l.ids.items ≡ length l.fn.ids.items;
-  below : IsIndicatorBelow l.listed l.ids.items l.state-index;
-}

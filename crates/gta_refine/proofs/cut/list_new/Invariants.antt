@@ -1,5 +1,0 @@
-use Rattle.gta_refine.proofs.CutLemmas.{ListsNew}
-use Rattle.gta_refine.proofs.cut.list_new.Given as goal
-
-abbrev pub invariant-loop-state : goal.invariant-loop-state
-invariant-loop-state l = ListsNew l.order l.before l.part l.fn.lists.items l.lists.items l.state-index

@@ -1,0 +1,6 @@
+pub mod NumbersLemmas
+pub mod ClassesLemmas
+pub mod ShortsLemmas
+pub mod RootsLemmas
+pub mod SubsetsLemmas
+pub mod ClosingLemmas
