@@ -4,9 +4,13 @@
 #![tactic(auto)]
 
 #[cfg(test)]
+mod chains;
+#[cfg(test)]
 mod copies;
 #[cfg(test)]
 mod cuts;
+#[cfg(test)]
+mod regions;
 #[cfg(test)]
 mod routes;
 #[cfg(test)]
