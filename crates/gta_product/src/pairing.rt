@@ -66,7 +66,8 @@ pub fn product(
 {
     // Only for their clauses `shelf` and `guide`.
     let _ = (shelf.count(), g.spaces());
-    let settled = settle(alloc, g, a, b, shelf)?;
+    let tables = Tables::read(alloc, a, b, shelf)?;
+    let settled = settle(alloc, g, a, b, &tables, shelf)?;
     let Settled {
         numbers,
         parts,
@@ -86,9 +87,17 @@ pub(crate) struct Settled {
 }
 
 /// Joins for the pairs as they come, until none comes; and then once more for all pairs, which gives the roots.
-fn settle(alloc: Global, g: &Guide, a: &Auto, b: &Auto, shelf: &mut Shelf) -> Result<Settled, Stop>
+fn settle(
+    alloc: Global,
+    g: &Guide,
+    a: &Auto,
+    b: &Auto,
+    tables: &Tables,
+    shelf: &mut Shelf,
+) -> Result<Settled, Stop>
     requires first { IsAuto g.now shelf.old a.now }
     requires second { IsAuto g.now shelf.old b.now }
+    requires tables { AreTables shelf.old a.now b.now tables.now }
     ensures leaves { Leaves shelf.old shelf.new }
     ensures limit { result ≡ Err Stop.Limit →
         Exceeded g.now (pairs (automaton_of shelf.old a.now) (automaton_of shelf.old b.now)) shelf.old }
@@ -96,7 +105,6 @@ fn settle(alloc: Global, g: &Guide, a: &Auto, b: &Auto, shelf: &mut Shelf) -> Re
 {
     // Only for its clause `shelf`.
     let _ = shelf.count();
-    let tables = Tables::read(alloc, a, b, shelf)?;
     let mut numbers = start(alloc, g, a, b)?;
     let mut joiners = joiners(alloc, g)?;
     let mut growths = growths(alloc, g)?;
@@ -106,7 +114,7 @@ fn settle(alloc: Global, g: &Guide, a: &Auto, b: &Auto, shelf: &mut Shelf) -> Re
             g,
             a,
             b,
-            &tables,
+            tables,
             shelf,
             &mut joiners,
             &mut numbers,
@@ -119,7 +127,7 @@ fn settle(alloc: Global, g: &Guide, a: &Auto, b: &Auto, shelf: &mut Shelf) -> Re
             g,
             a,
             b,
-            &tables,
+            tables,
             shelf,
             &mut joiners,
             &mut numbers,

@@ -2,7 +2,7 @@
 use Rattle.std.proofs.Common.{◌≡◌, ◌↔◌, ℕ, Bool, ◌&&◌, List, map, sym, ◌∙◌, ap, subst, arith}
 use Rattle.bdd_nodes.specs.Shelf.{Contents, tables_added}
 use Rattle.bdd_nodes.specs.Changes.{Keeps, AddsTable, SameTables}
-use Rattle.bdd_nodes.proofs.CallerLemmas.{Keeps-trans, Keeps-same}
+use Rattle.bdd_nodes.proofs.CallerLemmas.{Keeps-trans, Keeps-same, Keeps-refl}
 use Rattle.gta_theory.specs.Automata.{Accepts}
 use Rattle.gta_theory.specs.Constructions.{pairs}
 use Rattle.gta_theory.proofs.AutomataLemmas.{Accepts-product}
@@ -32,7 +32,7 @@ from_parts-requires-clause-whole c = λ table.
 
 pub returns-in_err-settled-clause-limit : goal.returns-in_err-settled-clause-limit
 returns-in_err-settled-clause-limit c = λ stopped.
-    let exceeded = c.settle.ensures.limit (let why = rw stopped at c.from_residual.ensures in c.in_err-settled.was ∙ (let is = why.1 in cc)) in
+    let exceeded = c.settle.ensures.limit (let why = rw stopped at c.from_residual-in_err-settled.ensures in c.in_err-settled.was ∙ (let is = why.1 in cc)) in
     limit-product c.args.g.now c.spaces.ensures.guide (automaton_of c.args.shelf.now c.args.a.now) (automaton_of c.args.shelf.now c.args.b.now)
     c.requires.first.stable c.requires.second.stable c.args.shelf.now exceeded.spaces exceeded.exceeds
 
@@ -140,3 +140,6 @@ returns-in_err-made-clause-tables c = on-err c.from_residual-in_err-made.result
 
 pub returns-in_err-made-clause-same_limit : goal.returns-in_err-made-clause-same_limit
 returns-in_err-made-clause-same_limit c = ap (λ (shelf : Contents). shelf.limit) c.in_err-made.ensures.err ∙ c.settle.ensures.leaves.same_limit
+
+pub returns-in_err-tables-clause-kept : goal.returns-in_err-tables-clause-kept
+returns-in_err-tables-clause-kept c = Keeps-refl c.args.shelf.now

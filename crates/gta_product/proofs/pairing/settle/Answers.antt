@@ -34,7 +34,7 @@ grow-requires-clause-second c =
 
 pub grow-requires-clause-tables : goal.grow-requires-clause-tables
 grow-requires-clause-tables c = AreTables-kept c.args.shelf.now c.loop-growths.shelf c.loop-growths.invariant.building.tables
-    c.args.a.now c.args.b.now c.in_ok-tables.tables c.in_ok-tables.ensures
+    c.args.a.now c.args.b.now c.args.tables.now c.requires.tables
 
 pub grow-requires-clause-spaces : goal.grow-requires-clause-spaces
 grow-requires-clause-spaces c =
@@ -69,7 +69,7 @@ parts_of-requires-clause-tables c =
     let grown = Building-goes c.args.g.now c.args.a.now c.args.b.now c.args.shelf.now c.loop-growths.shelf c.count.ensures.shelf
     c.loop-growths.numbers.items c.loop-growths.invariant.building
     c.grow.new.shelf c.grow.new.numbers.items c.grow.ensures.goes.building in
-    AreTables-kept c.args.shelf.now c.grow.new.shelf grown.tables c.args.a.now c.args.b.now c.in_ok-tables.tables c.in_ok-tables.ensures
+    AreTables-kept c.args.shelf.now c.grow.new.shelf grown.tables c.args.a.now c.args.b.now c.args.tables.now c.requires.tables
 
 pub parts_of-requires-clause-spaces : goal.parts_of-requires-clause-spaces
 parts_of-requires-clause-spaces c =
@@ -78,10 +78,6 @@ parts_of-requires-clause-spaces c =
     c.grow.new.shelf c.grow.new.numbers.items c.grow.ensures.goes.building in
     to-now c.args.g.now c.args.a.now c.args.b.now c.args.shelf.now c.grow.new.shelf c.count.ensures.shelf c.grow.new.numbers.items grown
     (λ (AB : Automaton (ℕ × ℕ)). AreSpaces c.args.g.now AB c.grow.new.numbers.items) grown.are
-
-pub returns-in_err-tables-clause-leaves : goal.returns-in_err-tables-clause-leaves
-returns-in_err-tables-clause-leaves c =
-    Leaves-none c.args.shelf.now c.count.ensures.shelf
 
 pub returns-in_err-numbers-clause-leaves : goal.returns-in_err-numbers-clause-leaves
 returns-in_err-numbers-clause-leaves c =
