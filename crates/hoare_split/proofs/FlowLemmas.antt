@@ -1,5 +1,6 @@
 -- On flows: the cuts that they reach, and their code.
-use Rattle.std.proofs.Common.{◌≡◌, ℕ, ◌+◌, Bool, true, false, cond, List, [], ◌∷◌, ◌++◌, refl, sym, ap, ◌∙◌, append_assoc, append-nil, not, eq-eqb, ◌&&◌, ◌||◌, subst, eqb, suc, ◌<◌, length, Some, arith}
+use Rattle.std.proofs.Common.{◌≡◌, ℕ, ◌+◌, Bool, true, false, cond, List, [], ◌∷◌, ◌++◌, refl, sym, ap, ◌∙◌, append_assoc, append-nil, not, eq-eqb, ◌&&◌, ◌||◌}
+use Rattle.std.proofs.Common.{subst, eqb, suc, ◌<◌, length, Some, arith}
 use Rattle.std.specs.List.{AllByRecursion, position}
 use Rattle.std.proofs.lemmas.List.Folds.{list_any-append}
 use Rattle.std.proofs.lemmas.Bool.{false≢true}
@@ -10,7 +11,8 @@ use Rattle.store_exec.specs.declared.code.Tail.TheVariants as tail
 use Rattle.store_exec.specs.declared.code.Code.{Code, out-Code, roll-Code, roll-out-Code, out-roll-Code}
 use Rattle.hoare_split.specs.declared.reached.Point.{Point}
 use Rattle.hoare_split.specs.declared.reached.Point.TheVariants as point
-use Rattle.hoare_split.specs.Flows.{Arrival, Flow, ends, does, branches, after_items, is_point, is_among, arrivals_of, first_of_each, points_in, place_among, behind, code_in}
+use Rattle.hoare_split.specs.Flows.{Arrival, Flow, ends, does, branches, after_items, is_point, is_among, arrivals_of, first_of_each, points_in, place_among}
+use Rattle.hoare_split.specs.Flows.{behind, code_in}
 
 -- ---- arrivals
 
@@ -77,11 +79,13 @@ next : (before : List Point) (a : Arrival) (arrivals : List Arrival) → AreAmon
     AreAmong ((before ++ a.point ∷ []) ++ points_in (first_of_each (before ++ a.point ∷ []) arrivals)) arrivals →
     (b : Bool) → is_among a.point before ≡ b → AreAmong (before ++ points_in (first_of_each before (a ∷ arrivals))) (a ∷ arrivals)
 next before a arrivals old new true e =
-    subst (λ (b : Bool). AreAmong (before ++ points_in (cond b (first_of_each before arrivals) (a ∷ first_of_each (before ++ a.point ∷ []) arrivals))) (a ∷ arrivals))
+    subst (λ (b : Bool). AreAmong (before ++ points_in (cond b (first_of_each before arrivals) (a ∷ first_of_each (before ++ a.point ∷ []) arrivals)))
+    (a ∷ arrivals))
     (sym e) (is_among-more a.point before (points_in (first_of_each before arrivals)) e, old)
 next before a arrivals old new false e =
     let others = points_in (first_of_each (before ++ a.point ∷ []) arrivals) in
-    subst (λ (b : Bool). AreAmong (before ++ points_in (cond b (first_of_each before arrivals) (a ∷ first_of_each (before ++ a.point ∷ []) arrivals))) (a ∷ arrivals))
+    subst (λ (b : Bool). AreAmong (before ++ points_in (cond b (first_of_each before arrivals) (a ∷ first_of_each (before ++ a.point ∷ []) arrivals)))
+    (a ∷ arrivals))
     (sym e) (subst (λ (points : List Point). AreAmong points (a ∷ arrivals)) (append_assoc before (a.point ∷ []) others)
     (is_among-more a.point (before ++ a.point ∷ []) others (is_among-last a.point before), new))
 
@@ -129,7 +133,8 @@ pub code_in-ends : (points : List Point) (items : List Item) (a : Arrival) →
     code_in points (after_items items (ends a)) ≡ roll-Code (record { items = items; tail = tail.Cut (place_among points a.point) })
 code_in-ends points items a =
     code_in-after_items points items (ends a)
-    ∙ ap (λ x. roll-Code (record { items = items ++ x.items; tail = x.tail })) (out-roll-Code (record { items = []; tail = tail.Cut (place_among points a.point) }))
+    ∙ ap (λ x. roll-Code (record { items = items ++ x.items; tail = x.tail }))
+    (out-roll-Code (record { items = []; tail = tail.Cut (place_among points a.point) }))
     ∙ ap (λ own. roll-Code (record { items = own; tail = tail.Cut (place_among points a.point) })) (append-nil items)
 
 pub code_in-branches : (points : List Point) (items : List Item) (line : ℕ) (c : Cond) (taken other : Flow) →

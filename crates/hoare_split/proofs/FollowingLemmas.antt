@@ -34,7 +34,8 @@ through procs vars s items items' own added plain adds rest = by (passage_of pro
         ∙ ap (λ y. after_items y rest) (append_cancel_left items x own (sym adds ∙ added))
 
 -- one statement with no cut inside further on
-pub gone-statement : (before items items' : List Item) (rest left left' : Rest) (s : Stmt) (more : List Stmt) (F : Caller → Flow) → IsGone before items rest left →
+pub gone-statement : (before items items' : List Item) (rest left left' : Rest) (s : Stmt) (more : List Stmt) (F : Caller → Flow) → IsGone before items
+    rest left →
     ((caller : Caller) → flow_of caller left ≡ (block_in caller (s ∷ more)).flow (F caller)) →
     ((caller : Caller) → flow_of caller left' ≡ (block_in caller more).flow (F caller)) → weight_behind left' ≤ weight_behind left →
     ((procs : List ProcEntry) (vars : List VarEntry) → is_some (passage_of procs vars s).items ≡ true) →

@@ -13,9 +13,11 @@ use Rattle.store_logic.specs.declared.assertion.Assertion.TheVariants.{rolls-Tru
 use Rattle.store_logic.specs.declared.assertion.Assertion.TheVariants as assertion
 use Rattle.store_logic.specs.declared.assertion.Assertion.TheOpen.{Assertion-F}
 use Rattle.store_logic.specs.declared.assertion.Assertion.TheFolds.{fold-roll-Assertion}
-use Rattle.store_logic.specs.Filling.{Filling, of_term, of_truth, shifted, put_under, path_from, truth_from, name_in, constant, is_true, filled_term, filled_truth, filled_set, filled_arg, filled}
+use Rattle.store_logic.specs.Filling.{Filling, of_term, of_truth, shifted, put_under, path_from, truth_from, name_in, constant, is_true, filled_term}
+use Rattle.store_logic.specs.Filling.{filled_truth, filled_set, filled_arg, filled}
 use Rattle.store_logic.specs.Postfix.{Form, without_parts, form_of, postfix_of, postfix_of_node, applied}
-use Rattle.store_logic.proofs.ExpandingForms.{filled-True, filled-False, filled-Truth, filled-Is, filled-Same, filled-Member, filled-Subset, filled-Walk, filled-Pred}
+use Rattle.store_logic.proofs.ExpandingForms.{filled-True, filled-False, filled-Truth, filled-Is, filled-Same, filled-Member, filled-Subset, filled-Walk}
+use Rattle.store_logic.proofs.ExpandingForms.{filled-Pred}
 use Rattle.store_logic.proofs.ExpandingForms.{filled-Not, filled-And, filled-Or, filled-Imp, filled-Iff, filled-Ex, filled-All, filled-ExSet, filled-AllSet}
 use Rattle.store_logic.proofs.AssertionLemmas.{IsHereditary, assertion-induction}
 use Rattle.store_logic.proofs.AssertionLemmas.{fold-True, fold-False, fold-Truth, fold-Is, fold-Same, fold-Member, fold-Subset, fold-Walk, fold-Pred}
@@ -172,7 +174,8 @@ module _ (puts : List Put) where
   forms_go = record {
     of_True = λ depth. none assertion.True assertion.True _ Assertion-F.True (fold-True (List Form) postfix_of_node) (fold-True (List Form) postfix_of_node)
         (filled-True put depth);
-    of_False = λ depth. none assertion.False assertion.False _ Assertion-F.False (fold-False (List Form) postfix_of_node) (fold-False (List Form) postfix_of_node)
+    of_False = λ depth. none assertion.False assertion.False _ Assertion-F.False (fold-False (List Form) postfix_of_node)
+        (fold-False (List Form) postfix_of_node)
         (filled-False put depth);
     of_Truth = λ t depth. none (assertion.Truth t) (filled_truth put 0 t) _ (Assertion-F.Truth t) (fold-Truth (List Form) postfix_of_node t)
         (leaf-filled_truth puts t).0 (filled-Truth put t depth ∙ same_truth puts depth t);
@@ -187,11 +190,13 @@ module _ (puts : List Put) where
         (fold-Member (List Form) postfix_of_node t set) (fold-Member (List Form) postfix_of_node (filled_term put 0 t) (filled_set put 0 set))
         (filled-Member put t set depth ∙ ap (λ x. assertion.Member x (filled_set put depth set)) (same_term puts depth t)
         ∙ ap (λ x. assertion.Member (filled_term put 0 t) x) (same_set puts depth set));
-    of_Subset = λ set other depth. none (assertion.Subset set other) (assertion.Subset (filled_set put 0 set) (filled_set put 0 other)) _ (Assertion-F.Subset set other)
+    of_Subset = λ set other depth. none (assertion.Subset set other) (assertion.Subset (filled_set put 0 set) (filled_set put 0 other)) _
+        (Assertion-F.Subset set other)
         (fold-Subset (List Form) postfix_of_node set other) (fold-Subset (List Form) postfix_of_node (filled_set put 0 set) (filled_set put 0 other))
         (filled-Subset put set other depth ∙ ap (λ x. assertion.Subset x (filled_set put depth other)) (same_set puts depth set)
         ∙ ap (λ x. assertion.Subset (filled_set put 0 set) x) (same_set puts depth other));
-    of_Walk = λ t along u depth. none (assertion.Walk t along u) (assertion.Walk (filled_term put 0 t) along (filled_term put 0 u)) _ (Assertion-F.Walk t along u)
+    of_Walk = λ t along u depth. none (assertion.Walk t along u) (assertion.Walk (filled_term put 0 t) along (filled_term put 0 u)) _
+        (Assertion-F.Walk t along u)
         (fold-Walk (List Form) postfix_of_node t along u) (fold-Walk (List Form) postfix_of_node (filled_term put 0 t) along (filled_term put 0 u))
         (filled-Walk put t along u depth ∙ ap (λ x. assertion.Walk x along (filled_term put depth u)) (same_term puts depth t)
         ∙ ap (λ x. assertion.Walk (filled_term put 0 t) along x) (same_term puts depth u));

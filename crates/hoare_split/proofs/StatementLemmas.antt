@@ -1,5 +1,6 @@
 -- What each form of statement means.
-use Rattle.std.proofs.Common.{◌≡◌, ℕ, suc, Bool, true, false, ◌&&◌, not, List, [], ◌∷◌, ◌++◌, Option, Some, None, is_some, refl, sym, ap, ◌∙◌, ◌⊎◌, inl, inr, ◌+◌, ◌<◌, length, get_or, drop, drop-cons, add-one}
+use Rattle.std.proofs.Common.{◌≡◌, ℕ, suc, Bool, true, false, ◌&&◌, not, List, [], ◌∷◌, ◌++◌, Option, Some, None, is_some, refl, sym, ap, ◌∙◌, ◌⊎◌, inl, inr}
+use Rattle.std.proofs.Common.{◌+◌, ◌<◌, length, get_or, drop, drop-cons, add-one}
 use Rattle.std.specs.Option.{option_and_then}
 use Rattle.pale_text.specs.declared.place.Pos.{Pos}
 use Rattle.store_core.specs.Tables.{VarEntry}

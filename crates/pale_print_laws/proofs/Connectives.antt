@@ -45,7 +45,9 @@ use Rattle.pale_print_laws.proofs.Assertions.{ReadsAssertion, operand_stops, pat
 use Rattle.pale_print_laws.proofs.Assertions.{at_not_equal, at_less, at_colon, at_in, at_sub, same_read, differ_read}
 use Rattle.pale_print_laws.proofs.Assertions.{member_read, subset_read, walk_read, is_read, use_read}
 use Rattle.pale_print_laws.proofs.Words.{is_name, is_true, is_false, is_ex, is_all, is_set}
-use Rattle.pale_print_laws.proofs.ConnectiveLevels.{part_at, StopsFor, stops_for, implication_for, disjunct_for, conjunct_for, operand_for, lowest_for, at_right_paren, at_right_bracket, at_equivalent, at_implies, at_bar, at_ampersand, as_negation, as_disjunct, as_implication, from_implication, from_disjunct, from_conjunct, raised, at_node}
+use Rattle.pale_print_laws.proofs.ConnectiveLevels.{part_at, StopsFor, stops_for, implication_for, disjunct_for, conjunct_for, operand_for, lowest_for}
+use Rattle.pale_print_laws.proofs.ConnectiveLevels.{at_right_paren, at_right_bracket, at_equivalent, at_implies, at_bar, at_ampersand, as_negation, as_disjunct}
+use Rattle.pale_print_laws.proofs.ConnectiveLevels.{as_implication, from_implication, from_disjunct, from_conjunct, raised, at_node}
 
 -- a quantifier so far
 abbrev pub so_far : QuantifierKind → Bool → List Name → Quantifier

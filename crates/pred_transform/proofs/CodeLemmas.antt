@@ -31,7 +31,8 @@ use Rattle.site_list.specs.Conditions.{condition}
 use Rattle.site_list.specs.Acts.{act_rule, made_truth}
 use Rattle.site_list.specs.Cuts.{arrived}
 use Rattle.site_list.specs.Codes as codes
-use Rattle.site_list.specs.Codes.{Going, in_order, with_ways, on_way, merged, with_merged, plain_if, items, other_code, branch, item_rule, tail_rule, code_rule, code}
+use Rattle.site_list.specs.Codes.{Going, in_order, with_ways, on_way, merged, with_merged, plain_if, items, other_code, branch, item_rule, tail_rule, code_rule}
+use Rattle.site_list.specs.Codes.{code}
 use Rattle.pred_transform.specs.declared.walker.Walker.{Walker}
 use Rattle.pred_transform.specs.declared.codes.Fork.{Fork}
 use Rattle.pred_transform.specs.Shown.{shown, with_guard, with_values, with_events, Leads}

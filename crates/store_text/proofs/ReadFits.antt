@@ -29,7 +29,8 @@ use Rattle.store_text.specs.Saying.{is_said, Said, nothing_said, say_field, say_
 use Rattle.store_text.specs.Saying.{named_in, value_for, mentions_of, field_holds}
 use Rattle.store_text.specs.Reading.{reading, read_text, read_lines, read_end, after_end, say_line, checked, store_said, next_after, is_misnamed}
 use Rattle.std.specs.Str.{bytes_eq}
-use Rattle.store_text.proofs.ReadValuesFit.{cases, result_cases, bool_cases, All-left, All-right, position_within, Fine, holds_fit, FieldFits-holds, SaidVars, SaidFits, var_fits}
+use Rattle.store_text.proofs.ReadValuesFit.{cases, result_cases, bool_cases, All-left, All-right, position_within, Fine, holds_fit, FieldFits-holds, SaidVars}
+use Rattle.store_text.proofs.ReadValuesFit.{SaidFits, var_fits}
 
 -- each value that was said is one of a field that the variant has
 abbrev SlotsSaid : ℕ → List FieldEntry → List (Option Value) → Type 0

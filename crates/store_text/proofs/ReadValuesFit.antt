@@ -149,7 +149,8 @@ set_fit s n target numbers x e fine = elim (cases (members_after [] numbers)) [
       )
 ]
 
-pub holds_fit : (s : StoreMap) (n : ℕ) (h : Holds) (sp : Spelled) (x : Value) → value_for h sp ≡ Ok x → AllByRecursion (Fine s) (mentions_of n h x) → HoldsFit s h x
+pub holds_fit : (s : StoreMap) (n : ℕ) (h : Holds) (sp : Spelled) (x : Value) → value_for h sp ≡ Ok x → AllByRecursion (Fine s) (mentions_of n h x) →
+    HoldsFit s h x
 unfolding value_for
 holds_fit s n holds.Truth (spelled.Truth b) x e fine = let same : value.Bool b ≡ x = cc in subst (HoldsFit s holds.Truth) same tt
 holds_fit s n holds.Truth spelled.Null x e fine = absurd (cc)

@@ -48,7 +48,8 @@ Extends-trans a b c first second = record {
 
 -- formulas keep their numbers
 pub at-extends : (old new : List Formula) (id : FormulaId) → Extends old new → IsThere old id → formula_of new id ≡ formula_of old id
-at-extends old new id h there = ap (λ formulas. formula_at formulas id.0) h.is ∙ ap (λ o. unwrap_or o (Root (record { 0 = 0 }))) (slice_get-front old h.more id.0 there)
+at-extends old new id h there = ap (λ formulas. formula_at formulas id.0) h.is ∙ ap (λ o. unwrap_or o (Root (record { 0 = 0 })))
+    (slice_get-front old h.more id.0 there)
 
 pub there-extends : (old new : List Formula) (id : FormulaId) → Extends old new → IsThere old id → IsThere new id
 there-extends old new id h there = omega (arith, ap length h.is, length-append old h.more)
@@ -73,7 +74,8 @@ formulas_at-extends old new (id ∷ ids) h all =
 
 -- the formula at a number, by its form
 pub at-And : (formulas : List Formula) (id f g : FormulaId) →
-    option_map (formula_of_node formulas) (Some (Node.And f g)) ≡ slice_get formulas id.0 → formula_of formulas id ≡ And (formula_of formulas f) (formula_of formulas g)
+    option_map (formula_of_node formulas) (Some (Node.And f g)) ≡ slice_get formulas id.0 → formula_of formulas id ≡ And (formula_of formulas f)
+    (formula_of formulas g)
 at-And formulas id f g e = formula_at-is formulas id.0 _ (sym e) ∙ rolls-And (formula_of formulas f) (formula_of formulas g)
 
 pub at-Not : (formulas : List Formula) (id f : FormulaId) →
@@ -204,7 +206,8 @@ pub joined-push : (fs : List Formula) (f : Formula) (last : List Formula) → jo
 joined-push [] f last = refl
 joined-push (g ∷ fs) f last = ap (before g) (joined-push fs f last)
 
-mapped-All : (formulas : List Formula) (P : Formula → Type 0) (ids : List FormulaId) → All (λ id. P (formula_of formulas id)) ids → All P (formulas_at formulas ids)
+mapped-All : (formulas : List Formula) (P : Formula → Type 0) (ids : List FormulaId) → All (λ id. P (formula_of formulas id)) ids → All P
+    (formulas_at formulas ids)
 mapped-All formulas P [] all = All-nil P
 mapped-All formulas P (id ∷ ids) all =
     All-cons P (formula_of formulas id) (formulas_at formulas ids) (All-head (λ i. P (formula_of formulas i)) id ids all)
@@ -281,7 +284,8 @@ pub All-chosen : (P : FormulaId → Type 0) (none others new : List FormulaId) �
 All-chosen P none others new e among all = All-among P none others new among (All-empty P none e) all
 
 -- the halves of a conjunct
-pub IsConjunct-node : (formulas : List Formula) (id f g : FormulaId) (node : Node) → option_map (formula_of_node formulas) (Some node) ≡ slice_get formulas id.0 →
+pub IsConjunct-node : (formulas : List Formula) (id f g : FormulaId) (node : Node) → option_map (formula_of_node formulas) (Some node) ≡ slice_get
+    formulas id.0 →
     HasPartsBelow id.0 node → node ≡ Node.And f g → (context : List Formula) → IsConjunct formulas context id →
     IsConjunct formulas context f × IsConjunct formulas context g
 IsConjunct-node formulas id f g node value parts e context conjunct =

@@ -41,14 +41,16 @@ found-weaker P Q h (Err e) p = p
 
 -- which tracks are free in a node's formula
 pub free-node : (formulas : List Formula) (t : ℕ) (node node' : Node) → node ≡ node' →
-    is_free_in_node t (map-Formula Formula Bool (is_free t) (map-Formula ℕ Formula (formula_at formulas) (form_of node'))) ≡ is_free t (formula_of_node formulas node)
+    is_free_in_node t (map-Formula Formula Bool (is_free t) (map-Formula ℕ Formula (formula_at formulas) (form_of node'))) ≡ is_free t
+    (formula_of_node formulas node)
 free-node formulas t node node' e =
     sym (fold-roll-Formula Bool (is_free_in_node t) (map-Formula ℕ Formula (formula_at formulas) (form_of node')))
     ∙ ap (λ n. is_free t (formula_of_node formulas n)) (sym e)
 
 module _ (facts : List Fact) (node node' : Node) (e : node ≡ node') where
   pub Finds-node : (free : List Formula → ℕ → Bool) (tracks : HashSet ℕ (BuildHasherDefault FoldHasher)) →
-      ((formulas : List Formula) (t : ℕ) → free formulas t ≡ is_free_in_node t (map-Formula Formula Bool (is_free t) (map-Formula ℕ Formula (formula_at formulas) (form_of node')))) →
+      ((formulas : List Formula) (t : ℕ) → free formulas t ≡ is_free_in_node t
+      (map-Formula Formula Bool (is_free t) (map-Formula ℕ Formula (formula_at formulas) (form_of node')))) →
       Finds facts free tracks → Finds facts (λ formulas t. is_free t (formula_of_node formulas node)) tracks
   Finds-node free tracks same found = record {
     exactly = λ formulas known t. found.exactly formulas known t ∙ same formulas t ∙ free-node formulas t node node' e;
@@ -63,7 +65,8 @@ pub free-of : (formulas : List Formula) (fact : Fact) (id : FormulaId) (t : ℕ)
 free-of formulas fact id t known e = known.free t ∙ ap (λ (i : FormulaId). is_free t (formula_of formulas i)) e
 
 -- one more fact
-pub AreFacts-push : (formulas : List Formula) (facts : List Fact) (node : Node) (fact : Fact) → option_map (formula_of_node formulas) (Some node) ≡ slice_get formulas fact.id.0 →
+pub AreFacts-push : (formulas : List Formula) (facts : List Fact) (node : Node) (fact : Fact) → option_map (formula_of_node formulas) (Some node) ≡
+    slice_get formulas fact.id.0 →
     Finds facts (λ fs t. is_free t (formula_of_node fs node)) fact.tracks → AreFacts formulas facts → IsFact formulas fact
 AreFacts-push formulas facts node fact value found known = record {
   there = slice_get_within formulas fact.id.0 (formula_of_node formulas node) (sym value);

@@ -21,5 +21,6 @@ loop-form-init c =
     ∙ run_on-whole (with_puts puts c.args.assertion.now)
 
 pub fill_form-requires : goal.fill_form-requires
-fill_form-requires c = applied-next (λ form. filled_form c.args.puts.now (form_of form.now)) c.as_slice-form-items.result.now c.loop-form.form-index c.form-item.result
+fill_form-requires c = applied-next (λ form. filled_form c.args.puts.now (form_of form.now)) c.as_slice-form-items.result.now c.loop-form.form-index
+    c.form-item.result
     c.form-item.is c.loop-form-test.true _ _ c.loop-form.invariant

@@ -5,4 +5,5 @@ use Rattle.hoare_split.proofs.putting.pair_results.Given as goal
 
 -- those so far and those that are left
 abbrev pub invariant-loop-var : goal.invariant-loop-var
-invariant-loop-var l = l.puts ++ beside l.var-iterator.a.rest.now (map (λ v. actual.Var v) l.var-iterator.b.rest.now) ≡ l.initial.puts ++ beside l.vars (map (λ v. actual.Var v) l.results)
+invariant-loop-var l = l.puts ++ beside l.var-iterator.a.rest.now (map (λ v. actual.Var v) l.var-iterator.b.rest.now) ≡ l.initial.puts ++ beside l.vars
+    (map (λ v. actual.Var v) l.results)

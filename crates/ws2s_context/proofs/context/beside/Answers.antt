@@ -17,7 +17,8 @@ conjunction_of-requires-clause-there c =
     let members = IsConjunct-wider fs context (left ∷ context) (Implies-tail left context) c.deref-2.result.now
     (subst (λ (ids : List FormulaId). All (IsConjunct fs context) ids) (sym c.deref-2.ensures.value) c.in_ok-members.ensures) in
     IsConjunct-there fs (left ∷ context) c.choose-2.new.chosen.items
-    (All-among (IsConjunct fs (left ∷ context)) c.choose.new.chosen.items c.deref-2.result.now c.choose-2.new.chosen.items c.in_ok-choose-2.ensures first members)
+    (All-among (IsConjunct fs (left ∷ context)) c.choose.new.chosen.items c.deref-2.result.now c.choose-2.new.chosen.items c.in_ok-choose-2.ensures first
+    members)
 
 pub returns-clause-implied : goal.returns-clause-implied
 returns-clause-implied c =
@@ -32,4 +33,5 @@ returns-clause-implied c =
     (subst (λ (ids : List FormulaId). All (IsConjunct fs context) ids) (sym c.deref-2.ensures.value) c.in_ok-members.ensures) in
     subst (λ (inner : List Formula). Implies (left ∷ context) inner) (sym c.in_ok-made.ensures.value)
     (Implies-joined fs (left ∷ context) c.choose-2.new.chosen.items
-    (All-among (IsConjunct fs (left ∷ context)) c.choose.new.chosen.items c.deref-2.result.now c.choose-2.new.chosen.items c.in_ok-choose-2.ensures first members))
+    (All-among (IsConjunct fs (left ∷ context)) c.choose.new.chosen.items c.deref-2.result.now c.choose-2.new.chosen.items c.in_ok-choose-2.ensures first
+    members))

@@ -4,7 +4,8 @@ use Rattle.ws2s_core.specs.declared.node.FormulaId.{FormulaId}
 use Rattle.ws2s_context.specs.Conjuncts.{IsAmong}
 use Rattle.ws2s_context.proofs.ConjunctsLemmas.{IsAmong-push, Contains-at}
 use Rattle.ws2s_context.proofs.context.choose.Goals as goal
-use Rattle.ws2s_context.proofs.context.choose.Goals.{then-len-lt-MANY_CONJUNCTS+then-is_relevant+then-not-contains+in_ok-note+in_ok-push, else-len-lt-MANY_CONJUNCTS}
+use Rattle.ws2s_context.proofs.context.choose.Goals.{then-len-lt-MANY_CONJUNCTS+then-is_relevant+then-not-contains+in_ok-note+in_ok-push}
+use Rattle.ws2s_context.proofs.context.choose.Goals.{else-len-lt-MANY_CONJUNCTS}
 
 pub loop-conjunct-preserved : goal.loop-conjunct-preserved
 loop-conjunct-preserved c =

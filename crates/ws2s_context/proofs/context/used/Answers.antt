@@ -7,7 +7,8 @@ use Rattle.ws2s_context.proofs.context.used.Goals as goal
 pub conjunction_of-requires-clause-there : goal.conjunction_of-requires-clause-there
 conjunction_of-requires-clause-there c =
     let context = context_at c.args.interner.now c.args.context in
-    there-chosen c.args.interner.now context c.new-chosen.result.items c.deref.result.now c.choose_used.new.chosen.items c.new-chosen.ensures.items c.in_ok-choose_used.ensures
+    there-chosen c.args.interner.now context c.new-chosen.result.items c.deref.result.now c.choose_used.new.chosen.items c.new-chosen.ensures.items
+    c.in_ok-choose_used.ensures
     (subst (λ (ids : List FormulaId). All (IsConjunct c.args.interner.now context) ids) (sym c.deref.ensures.value) c.in_ok-members.ensures)
 
 pub returns-clause-implied : goal.returns-clause-implied

@@ -16,7 +16,8 @@ pub turn-requires-clause-going : goal.turn-requires-clause-going
 turn-requires-clause-going c = IsGoing-rest c.args.interner.now c.args.task _ _ c.requires.going
 
 pub make_conjunction-requires-clause-place : goal.make_conjunction-requires-clause-place
-make_conjunction-requires-clause-place c = subst (IsSound c.args.interner.now) c.in-Conjoin.is (IsGoing-first c.args.interner.now c.args.task _ _ c.requires.going)
+make_conjunction-requires-clause-place c = subst (IsSound c.args.interner.now) c.in-Conjoin.is
+    (IsGoing-first c.args.interner.now c.args.task _ _ c.requires.going)
 
 pub make_conjunction-requires-clause-going : goal.make_conjunction-requires-clause-going
 make_conjunction-requires-clause-going c = IsGoing-rest c.args.interner.now c.args.task _ _ c.requires.going
@@ -28,7 +29,8 @@ pub make_negation-requires-clause-going : goal.make_negation-requires-clause-goi
 make_negation-requires-clause-going c = IsGoing-rest c.args.interner.now c.args.task _ _ c.requires.going
 
 pub make_quantified-requires-clause-place : goal.make_quantified-requires-clause-place
-make_quantified-requires-clause-place c = subst (IsSound c.args.interner.now) c.in-Quantify.is (IsGoing-first c.args.interner.now c.args.task _ _ c.requires.going)
+make_quantified-requires-clause-place c = subst (IsSound c.args.interner.now) c.in-Quantify.is
+    (IsGoing-first c.args.interner.now c.args.task _ _ c.requires.going)
 
 pub make_quantified-requires-clause-going : goal.make_quantified-requires-clause-going
 make_quantified-requires-clause-going c = IsGoing-rest c.args.interner.now c.args.task _ _ c.requires.going

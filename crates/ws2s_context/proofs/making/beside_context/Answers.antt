@@ -11,7 +11,8 @@ pub returns-in_ok-made-in-Some-clause-same : goal.returns-in_ok-made-in-Some-cla
 returns-in_ok-made-in-Some-clause-same c =
     let old = c.args.interner.now in
     let new = c.make.new.interner in
-    subst (λ (context : Option FormulaId). SameUnder (context_at old context) (formula_of old c.args.id) (formula_of new c.in_ok-made-in-Some.made)) (sym c.in-Some.is)
+    subst (λ (context : Option FormulaId). SameUnder (context_at old context) (formula_of old c.args.id) (formula_of new c.in_ok-made-in-Some.made))
+    (sym c.in-Some.is)
     (subst (λ (f : Formula). SameUnder (formula_of old c.in-Some.known ∷ []) (formula_of old c.args.id) f)
     (sym (made-And old new c.in_ok-made-in-Some.made c.in-Some.known c.args.id c.in_ok-made-in-Some.ensures.value))
     (SameUnder-beside (formula_of old c.in-Some.known) (formula_of old c.args.id)))
