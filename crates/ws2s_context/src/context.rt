@@ -4,7 +4,8 @@ ghost use Rattle.std.specs.Prelude.{◌≡◌, ℕ, List, [], ◌∷◌, All, So
 ghost use Rattle.ws2s_core.specs.declared.formula.Formula.{Formula};
 ghost use Rattle.ws2s_core.specs.Nodes.{Extends};
 ghost use Rattle.ws2s_core.specs.Tracks.{IsFree};
-ghost use Rattle.ws2s_context.specs.Conjuncts.{IsThere, IsContext, IsConjunct, IsUnbound, IsAmong, formula_of, context_at, Implies, before, joined, formulas_at};
+ghost use Rattle.ws2s_context.specs.Conjuncts.{IsThere, IsContext, IsConjunct, IsUnbound, IsAmong, formula_of, context_at};
+ghost use Rattle.ws2s_context.specs.Conjuncts.{Implies, before, joined, formulas_at};
 ghost use Rattle.ws2s_context.specs.Facts.{AreFacts};
 
 use crate::choice::Choice;

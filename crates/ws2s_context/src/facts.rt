@@ -1,6 +1,7 @@
 //! What is found of each part of a formula, once: its free tracks.
 
-ghost use Rattle.std.specs.Prelude.{◌≡◌, ℕ, ◌<◌, IfOk, OnOk, IfSome, IfNone, List, length, true, Contains, ◌||◌, ◌==◌, if◌then◌else◌, false, nat_eq, Some, slice_get};
+ghost use Rattle.std.specs.Prelude.{◌≡◌, ℕ, ◌<◌, IfOk, OnOk, IfSome, IfNone, List, length, true, Contains, ◌||◌};
+ghost use Rattle.std.specs.Prelude.{◌==◌, if◌then◌else◌, false, nat_eq, Some, slice_get};
 ghost use Rattle.std.specs.HashSet.{contains};
 ghost use Rattle.ws2s_core.specs.declared.formula.Formula.{Formula};
 ghost use Rattle.ws2s_core.specs.Nodes.{Extends, HasPartsBelow, formula_of_node};
