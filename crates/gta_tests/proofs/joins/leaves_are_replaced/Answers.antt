@@ -1,7 +1,0 @@
-use Rattle.gta_tests.proofs.joins.leaves_are_replaced.Goals as goal
-
-pub make-requires-clause-low : goal.make-requires-clause-low
-make-requires-clause-low g c = c.leaf-zero.ensures.side _ _
-
-pub make-requires-clause-high : goal.make-requires-clause-high
-make-requires-clause-high g c = c.leaf-one.ensures.side _ _

@@ -1,0 +1,4 @@
+pub mod GridLemmas
+pub mod GoingLemmas
+mod TablesLemmas
+pub mod ToldLemmas

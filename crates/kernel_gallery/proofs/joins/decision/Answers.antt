@@ -1,0 +1,7 @@
+use Rattle.kernel_gallery.proofs.joins.decision.Goals as goal
+
+pub make-requires-clause-low : goal.make-requires-clause-low
+make-requires-clause-low c = c.leaf-zero.ensures.side _ _
+
+pub make-requires-clause-high : goal.make-requires-clause-high
+make-requires-clause-high c = c.leaf-one.ensures.side _ _

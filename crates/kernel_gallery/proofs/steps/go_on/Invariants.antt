@@ -1,0 +1,5 @@
+use Rattle.gta_core.specs.Auto.{IsAuto}
+use Rattle.kernel_gallery.proofs.steps.go_on.Given as goal
+
+abbrev pub invariant-loop-word : goal.invariant-loop-word
+invariant-loop-word l = IsAuto l.g l.shelf l.a

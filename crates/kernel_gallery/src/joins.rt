@@ -1,0 +1,218 @@
+//! Joins, restrictions and renamings of two functions: that of track 0 and that of track 1, each of which is 1 where its track is
+//! set and else 0.
+
+ghost use Rattle.std.specs.Prelude.{◌≤◌, All, IfOk};
+ghost use Rattle.bdd_nodes.specs.Shelf.{IsValid, AsksFrom};
+ghost use Rattle.bdd_nodes.specs.Changes.{Keeps};
+ghost use Rattle.bdd_nodes.specs.declared.node_ref.NodeRef.{NodeRef};
+
+use anyhow::{Context, Result};
+use bdd_nodes::{Full, NodeRef, RefList, Shelf};
+use bdd_walk::{LeafRule, StateList, Stop, join, rename, restrict};
+use plain_data::Items;
+use std::alloc::{AllocError, Global};
+
+/// Answers the digits of the states, as one decimal number.
+#[derive(Clone, Copy)]
+struct Digits;
+
+impl LeafRule for Digits {
+    ghost use Rattle.std.specs.Prelude.{◌+◌, ◌*◌, ◌%◌, ◌^◌, Some, fold};
+
+    ghost answers = { λ rule states. Some (fold (λ number state. ((number * 10) % 2 ^ 32 + state) % 2 ^ 32) 0 states % 2 ^ 31) };
+
+    ghost may_ask = { λ rule states. Unit {0} };
+
+    fn leaf(&mut self, states: &StateList) -> Result<u32, AllocError> {
+        let number = states.as_slice().iter().fold(0u32, |number, state| {
+            number.wrapping_mul(10).wrapping_add(*state)
+        });
+        Ok(number % 0x8000_0000)
+    }
+}
+
+/// The function of one track: state 0 where it is unset, and 1 where it is set.
+fn decision(shelf: &mut Shelf, track: u32) -> Result<NodeRef, Full>
+    ensures valid { IfOk result (IsValid shelf.new) }
+    ensures later { IfOk result (AsksFrom shelf.new track) }
+    ensures kept { Keeps shelf.old shelf.new }
+{
+    let zero = Shelf::leaf(0);
+    let one = Shelf::leaf(1);
+    shelf.make(track, zero, one)
+}
+
+/// The functions of track 0 and of track 1.
+#[derive(Clone, Copy)]
+struct Pair {
+    first: NodeRef,
+    second: NodeRef,
+}
+
+fn make_pair(shelf: &mut Shelf) -> Result<Pair, Full>
+    ensures first { IfOk result (λ made. IsValid shelf.new made.first) }
+    ensures second { IfOk result (λ made. IsValid shelf.new made.second) }
+{
+    let first = decision(shelf, 0)?;
+    let second = decision(shelf, 1)?;
+    Ok(Pair { first, second })
+}
+
+/// Writes the states where no track, track 0, track 1 and both are set.
+fn write_states(
+    alloc: Global,
+    shelf: &Shelf,
+    root: NodeRef,
+    out: &mut String,
+) -> Result<(), AllocError>
+    requires { IsValid shelf.now root }
+{
+    for tracks in [&[][..], &[0], &[1], &[1, 0]] {
+        let label = Items::from_slice(alloc, tracks)?;
+        let text = format!(in alloc; " {}", shelf.eval(root, &label))?;
+        out.push_str(&text)?;
+    }
+    Ok(())
+}
+
+/// The first reference for each word `0`, and the second for each other word.
+fn chosen(alloc: Global, shelf: &Shelf, pair: Pair, words: &str) -> Result<RefList, AllocError>
+    requires first { IsValid shelf.now pair.first }
+    requires second { IsValid shelf.now pair.second }
+    ensures { IfOk result (λ roots. All (IsValid shelf.now) roots) }
+{
+    let mut roots = Items::new(alloc);
+    for word in words.split_whitespace() {
+        roots.push(if word == "0" { pair.first } else { pair.second })?;
+    }
+    Ok(roots)
+}
+
+/// The join of functions, by their digits.
+fn joined(
+    alloc: Global,
+    shelf: &mut Shelf,
+    pair: Pair,
+    dropped: Option<u32>,
+    words: &str,
+) -> Result<NodeRef, Stop>
+    requires first { IsValid shelf.old pair.first }
+    requires second { IsValid shelf.old pair.second }
+    ensures made { IfOk result (IsValid shelf.new) }
+    ensures kept { (r : NodeRef) → IsValid shelf.old r → IsValid shelf.new r }
+{
+    let roots = chosen(alloc, shelf, pair, words)?;
+    join(alloc, shelf, &roots, dropped, &mut Digits)
+}
+
+/// Where both tracks are set, with a track fixed.
+fn fixed(alloc: Global, shelf: &mut Shelf, track: u32, is_set: bool) -> Result<NodeRef, Stop>
+    ensures made { IfOk result (IsValid shelf.new) }
+    ensures kept { (r : NodeRef) → IsValid shelf.old r → IsValid shelf.new r }
+{
+    let second = decision(shelf, 1)?;
+    let both = shelf.make(0, Shelf::leaf(0), second)?;
+    restrict(alloc, shelf, both, track, is_set)
+}
+
+/// The function of track 1, with 5 for 0 and 3 for 1.
+fn renamed(alloc: Global, shelf: &mut Shelf) -> Result<NodeRef, Stop>
+    ensures made { IfOk result (IsValid shelf.new) }
+    ensures kept { (r : NodeRef) → IsValid shelf.old r → IsValid shelf.new r }
+{
+    let zero = Shelf::leaf(0);
+    let one = Shelf::leaf(1);
+    let root = shelf.make(1, zero, one)?;
+    let numbers = Items::from_slice(alloc, &[5, 3])?;
+    rename(alloc, shelf, root, &numbers)
+}
+
+/// What a line asks for.
+#[derive(Clone, Copy)]
+enum Asked {
+    Join(Option<u32>),
+    Fix(u32, bool),
+    Rename,
+}
+
+impl Asked {
+    /// The word in front of a line: `join`, `drop.1`, `set.0`, `unset.0` or `rename`.
+    fn of(word: &str) -> Option<Asked> {
+        let (what, track) = word.split_once('.').unwrap_or((word, "0"));
+        let track = track.parse().ok()?;
+        match what {
+            "join" => Some(Asked::Join(None)),
+            "drop" => Some(Asked::Join(Some(track))),
+            "set" => Some(Asked::Fix(track, true)),
+            "unset" => Some(Asked::Fix(track, false)),
+            "rename" => Some(Asked::Rename),
+            _ => None,
+        }
+    }
+}
+
+/// The function that is asked for.
+fn made(
+    alloc: Global,
+    shelf: &mut Shelf,
+    pair: Pair,
+    asked: Asked,
+    words: &str,
+) -> Result<NodeRef, Stop>
+    requires first { IsValid shelf.old pair.first }
+    requires second { IsValid shelf.old pair.second }
+    ensures made { IfOk result (IsValid shelf.new) }
+    ensures kept { (r : NodeRef) → IsValid shelf.old r → IsValid shelf.new r }
+{
+    match asked {
+        Asked::Join(dropped) => joined(alloc, shelf, pair, dropped, words),
+        Asked::Fix(track, is_set) => fixed(alloc, shelf, track, is_set),
+        Asked::Rename => renamed(alloc, shelf),
+    }
+}
+
+/// Writes the states of the function that is asked for, or that the shelf is full.
+fn write_made(
+    alloc: Global,
+    shelf: &mut Shelf,
+    pair: Pair,
+    asked: Asked,
+    words: &str,
+    out: &mut String,
+) -> Result<()>
+    requires first { IsValid shelf.old pair.first }
+    requires second { IsValid shelf.old pair.second }
+    ensures { (r : NodeRef) → IsValid shelf.old r → IsValid shelf.new r }
+{
+    match made(alloc, shelf, pair, asked, words) {
+        Ok(root) => Ok(write_states(alloc, shelf, root, out)?),
+        Err(Stop::Limit) => Ok(out.push_str(" limit")?),
+        Err(stop) => Err(stop.into()),
+    }
+}
+
+/// Writes the states of both functions, and how many nodes there are.
+fn write_kept(alloc: Global, shelf: &Shelf, pair: Pair, out: &mut String) -> Result<(), AllocError>
+    requires first { IsValid shelf.now pair.first }
+    requires second { IsValid shelf.now pair.second }
+{
+    out.push_str(" of")?;
+    write_states(alloc, shelf, pair.first, out)?;
+    write_states(alloc, shelf, pair.second, out)?;
+    let text = format!(in alloc; " nodes {}\n", shelf.count())?;
+    out.push_str(&text)
+}
+
+/// Writes what a line asks for of a shelf of its own with this limit, and what stands there afterwards.
+pub(crate) fn answer_join(alloc: Global, limit: u32, line: &str, out: &mut String) -> Result<()>
+    requires some { 1 ≤ limit }
+    requires small { limit ≤ 16000000 }
+{
+    let (word, words) = line.split_once(' ').unwrap_or((line, ""));
+    let asked = Asked::of(word).context("an unknown word of joins")?;
+    let mut shelf = Shelf::open(alloc, limit)?;
+    let pair = make_pair(&mut shelf)?;
+    write_made(alloc, &mut shelf, pair, asked, words, out)?;
+    write_kept(alloc, &shelf, pair, out)?;
+    Ok(())
+}
