@@ -7,12 +7,10 @@ pub mod Calls
 pub mod ConditionShapes
 pub mod ConditionSizes
 pub mod Conditions
-pub mod ConnectiveLevels
 pub mod Connectives
 pub mod DeclarationSizes
 pub mod Framework
 pub mod FromAssertionPlaces
-pub mod FromChains
 pub mod FromAssertions
 pub mod FromAtoms
 pub mod FromCalls
@@ -23,7 +21,6 @@ pub mod FromMade
 pub mod FromMeaning
 pub mod FromNames
 pub mod FromParts
-pub mod FromSignatures
 pub mod FromProcedures
 pub mod FromPrograms
 pub mod FromRoutePlaces

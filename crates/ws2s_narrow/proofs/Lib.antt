@@ -1,6 +1,5 @@
 pub mod HandingLemmas
 pub mod MovingLemmas
-pub mod StandingLemmas
 pub mod NarrowLemmas
 pub mod NarrowedPartsLemmas
 pub mod NarrowingLemmas

@@ -1,5 +1,5 @@
 use Rattle.std.proofs.Common.{reverse, vec_len}
-use Rattle.ws2s_narrow.proofs.StandingLemmas.{IsHalf}
+use Rattle.ws2s_narrow.proofs.NarrowLemmas.{IsHalf}
 use Rattle.ws2s_narrow.proofs.narrow.narrowed_symbols.Given as goal
 
 abbrev pub invariant-loop-step : goal.invariant-loop-step
