@@ -5,7 +5,6 @@ mod rows;
 
 use crate::tables::{NODE, VARS, made_types, made_vars, store_of};
 use plain_data::Boxed;
-pub(crate) use rows::TREE_LINES;
 use rows::{CASES, Case, Held, On, Path, Row, Said};
 use std::alloc::{AllocError, Global};
 use std::process::Abort;
