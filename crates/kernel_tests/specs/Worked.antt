@@ -1,7 +1,6 @@
 -- Formulas that are written out by hand, for lists with one data variable: type T with a data field n of T has the track 0, and
 -- the variable x the track 1.
-use Rattle.std.specs.Prelude.{ℕ, List, [], ◌∷◌, Option, Some, None, true, false}
-use Rattle.ws2s_core.specs.declared.track.Track.{Track}
+use Rattle.std.specs.Prelude.{ℕ, [], ◌∷◌, Some, None, false}
 use Rattle.ws2s_core.specs.declared.formula.Formula.{Formula}
 use Rattle.ws2s_core.specs.declared.formula.Formula.TheVariants.{Sub, Single, Succ0, Succ1, Root, And, Not, Ex2}
 use Rattle.store_core.specs.declared.ids.TypeId.{TypeId}
@@ -11,10 +10,8 @@ use Rattle.tree_formula.specs.Worked.{list_types, t}
 use Rattle.store_core.specs.declared.kind.Route.TheOpen.{Route-F}
 use Rattle.graph_view.specs.Fields.{is_reference}
 use Rattle.graph_view.specs.Routes.{Joining, names, walk_rules}
-use Rattle.graph_view.specs.declared.view.Event.{Event}
 use Rattle.graph_view.specs.declared.view.Event.TheVariants.{New, Write, Free}
-use Rattle.graph_view.specs.declared.view.Sym.{Sym}
-use Rattle.graph_view.specs.declared.view.Sym.TheVariants.{Null, At}
+use Rattle.graph_view.specs.declared.view.Sym.TheVariants.{At}
 use Rattle.graph_view.specs.Sights.{Sight}
 
 abbrev pub list_type : TypeId
