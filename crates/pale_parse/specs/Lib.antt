@@ -1,4 +1,3 @@
-pub mod ParseFirsts
 pub mod ParseTable
 pub mod TableLaws
 pub mod Productions

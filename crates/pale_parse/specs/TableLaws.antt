@@ -11,8 +11,7 @@ use Rattle.pale_syntax.specs.declared.grammar.part.ProgramPart.{ProgramPart}
 use Rattle.pale_syntax.specs.declared.grammar.part.ProgramPart.TheVariants as part
 use Rattle.pale_syntax.specs.ProgramGrammar.{rows_of, program_grammar}
 use Rattle.pale_parse.specs.Productions.{productions_of, row_of, program_rules}
-use Rattle.pale_parse.specs.ParseFirsts.{number_of, label_of, first_set, tails_of}
-use Rattle.pale_parse.specs.ParseTable.{cost_of, sample_of, begin_of, size_of, program_table}
+use Rattle.pale_parse.specs.ParseTable.{number_of, label_of, first_set, tails_of, cost_of, sample_of, begin_of, size_of, program_table}
 
 -- ---- numbers are one for each kind and part, since they are its place in these lists
 

@@ -20,8 +20,7 @@ use Rattle.pale_syntax.specs.declared.tree.statement.Statement.{Statement}
 use Rattle.pale_syntax.specs.MakingParts.{Parts}
 use Rattle.pale_syntax.specs.ProgramGrammar.{ProgramSymbol, program_grammar, rows_of, reads, push_name, mark_place, call as makes}
 use Rattle.pale_parse.specs.Productions.{program_rules, productions_of}
-use Rattle.pale_parse.specs.ParseFirsts.{number_of, first_set}
-use Rattle.pale_parse.specs.ParseTable.{program_table, mark_number}
+use Rattle.pale_parse.specs.ParseTable.{number_of, first_set, program_table, mark_number}
 use Rattle.pale_print.specs.Placeless.{nowhere, placeless_name, placeless_bracketed, placeless_argument, placeless_call}
 use Rattle.pale_print.specs.Tokens.{each_behind, separated, name_tokens}
 use Rattle.pale_print.specs.StatementTokens.{argument_tokens, logic_argument_tokens, clause_tokens, call_result_tokens, call_tokens}

@@ -23,8 +23,7 @@ use Rattle.pale_syntax.specs.MakingParts.{Parts}
 use Rattle.pale_syntax.specs.MakingConditions.{term_alone, both_conditions, either_condition}
 use Rattle.pale_syntax.specs.ProgramGrammar.{ProgramSymbol, program_grammar, rows_of, reads, opens, push_name, mark_place, condition as makes}
 use Rattle.pale_parse.specs.Productions.{program_rules, productions_of}
-use Rattle.pale_parse.specs.ParseFirsts.{number_of, first_set}
-use Rattle.pale_parse.specs.ParseTable.{program_table, mark_number}
+use Rattle.pale_parse.specs.ParseTable.{number_of, first_set, program_table, mark_number}
 use Rattle.pale_print.specs.Placeless.{nowhere, placeless_name, placeless_term, placeless_condition_node, placeless_condition}
 use Rattle.pale_print.specs.Tokens.{each_behind, name_tokens, term_tokens}
 use Rattle.pale_print.specs.RouteTokens.{Placed, grouped, chained}

@@ -13,8 +13,7 @@ use Rattle.pale_syntax.specs.declared.tree.assertion.Assertion.TheFolds.{fold-ro
 use Rattle.pale_syntax.specs.MakingParts.{Parts}
 use Rattle.pale_syntax.specs.ProgramGrammar.{program_grammar, rows_of}
 use Rattle.pale_parse.specs.Productions.{program_rules, productions_of}
-use Rattle.pale_parse.specs.ParseFirsts.{number_of, first_set}
-use Rattle.pale_parse.specs.ParseTable.{program_table, mark_number}
+use Rattle.pale_parse.specs.ParseTable.{number_of, first_set, program_table, mark_number}
 use Rattle.pale_print.specs.Placeless.{placeless_assertion_node, placeless_assertion}
 use Rattle.pale_print.specs.AssertionTokens.{Operand, assertion_node, assertion_tokens}
 use Rattle.pale_print_laws.specs.CanonicalAssertions.{AssertionPlace, whole, implication, disjunct, conjunct, operand, asks}

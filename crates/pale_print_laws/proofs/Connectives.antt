@@ -26,8 +26,7 @@ use Rattle.pale_syntax.specs.MakingParts.{Parts, nameless}
 use Rattle.pale_syntax.specs.MakingAssertions.{both, either, equivalent}
 use Rattle.pale_syntax.specs.ProgramGrammar.{ProgramSymbol, program_grammar, rows_of, reads, opens, push_name, mark_place, atom, connective as makes}
 use Rattle.pale_parse.specs.Productions.{program_rules, productions_of}
-use Rattle.pale_parse.specs.ParseFirsts.{number_of, first_set}
-use Rattle.pale_parse.specs.ParseTable.{program_table, mark_number}
+use Rattle.pale_parse.specs.ParseTable.{number_of, first_set, program_table, mark_number}
 use Rattle.pale_print.specs.Placeless.{nowhere, placeless_name, placeless_assertion, placeless_bracketed}
 use Rattle.pale_print.specs.Tokens.{each_behind, name_tokens}
 use Rattle.pale_print.specs.AssertionTokens.{grouped, chained, implied, set_word, operands, assertion_tokens, bracketed_tokens}

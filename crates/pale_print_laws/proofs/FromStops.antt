@@ -15,8 +15,7 @@ use Rattle.pale_text.specs.declared.token.Token.{Token}
 use Rattle.pale_syntax.specs.ProgramGrammar.{program_grammar}
 use Rattle.pale_syntax.specs.ProgramWords.{kinds_in}
 use Rattle.pale_parse.specs.Productions.{program_rules, productions_of}
-use Rattle.pale_parse.specs.ParseFirsts.{number_of, first_set as row_first_set}
-use Rattle.pale_parse.specs.ParseTable.{program_table, mark_number}
+use Rattle.pale_parse.specs.ParseTable.{number_of, first_set as row_first_set, program_table, mark_number}
 use Rattle.pale_parse.specs.TableLaws.{program_named, program_sound}
 use Rattle.pale_print_laws.proofs.Framework.{Counts}
 use Rattle.pale_print_laws.proofs.FromMade.{StopsAt, EndsIff, BeginsWith, IsOperator}

@@ -25,8 +25,7 @@ use Rattle.pale_syntax.specs.MakingParts.{Parts}
 use Rattle.pale_syntax.specs.ProgramGrammar.{ProgramSymbol, program_grammar, rows_of, reads, opens, push_name, mark_place}
 use Rattle.pale_syntax.specs.ProgramGrammar.{procedure as makes, statement as states}
 use Rattle.pale_parse.specs.Productions.{program_rules, productions_of}
-use Rattle.pale_parse.specs.ParseFirsts.{number_of, first_set}
-use Rattle.pale_parse.specs.ParseTable.{program_table, mark_number}
+use Rattle.pale_parse.specs.ParseTable.{number_of, first_set, program_table, mark_number}
 use Rattle.pale_print.specs.Placeless.{nowhere, placeless_name, placeless_bracketed, placeless_parameter, placeless_logic, placeless_procedure}
 use Rattle.pale_print.specs.Tokens.{each, each_behind, separated}
 use Rattle.pale_print.specs.StatementTokens.{clause_tokens, statement_tokens}

@@ -8,8 +8,7 @@ use Rattle.pale_syntax.specs.declared.tree.declaration.Declaration.TheVariants a
 use Rattle.pale_syntax.specs.declared.tree.declaration.Program.{Program}
 use Rattle.pale_syntax.specs.ProgramGrammar.{ProgramSymbol, program_grammar, rows_of}
 use Rattle.pale_parse.specs.Productions.{program_rules, productions_of}
-use Rattle.pale_parse.specs.ParseFirsts.{number_of, first_set}
-use Rattle.pale_parse.specs.ParseTable.{program_table, mark_number}
+use Rattle.pale_parse.specs.ParseTable.{number_of, first_set, program_table, mark_number}
 use Rattle.pale_print.specs.Placeless.{placeless_declaration}
 use Rattle.pale_print.specs.Tokens.{each}
 use Rattle.pale_print.specs.DeclarationTokens.{declaration_tokens, program_tokens}

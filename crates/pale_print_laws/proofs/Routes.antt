@@ -22,8 +22,7 @@ use Rattle.pale_syntax.specs.MakingParts.{Parts}
 use Rattle.pale_syntax.specs.MakingRoutes.{joined_then, joined_or, starred}
 use Rattle.pale_syntax.specs.ProgramGrammar.{ProgramSymbol, program_grammar, rows_of, reads, opens, push_name, route as makes}
 use Rattle.pale_parse.specs.Productions.{program_rules, productions_of}
-use Rattle.pale_parse.specs.ParseFirsts.{number_of, first_set}
-use Rattle.pale_parse.specs.ParseTable.{program_table, mark_number}
+use Rattle.pale_parse.specs.ParseTable.{number_of, first_set, program_table, mark_number}
 use Rattle.pale_print.specs.Placeless.{nowhere, placeless_name, placeless_route_node, placeless_route}
 use Rattle.pale_print.specs.Tokens.{each_behind}
 use Rattle.pale_print.specs.RouteTokens.{Placed, grouped, chained, stars, route_node, route_tokens}

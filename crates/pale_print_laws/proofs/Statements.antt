@@ -24,8 +24,7 @@ use Rattle.pale_syntax.specs.ProgramGrammar.{ProgramSymbol, program_grammar, row
 use Rattle.pale_syntax.specs.ProgramGrammar.{statement as makes, call as call_makes, word as says}
 use Rattle.pale_syntax.specs.ProgramReading.{program_rows}
 use Rattle.pale_parse.specs.Productions.{program_rules, productions_of}
-use Rattle.pale_parse.specs.ParseFirsts.{number_of, first_set}
-use Rattle.pale_parse.specs.ParseTable.{program_table, mark_number}
+use Rattle.pale_parse.specs.ParseTable.{number_of, first_set, program_table, mark_number}
 use Rattle.pale_print.specs.Placeless.{nowhere, placeless_condition, placeless_bracketed, placeless_value, placeless_statement_node, placeless_statement}
 use Rattle.pale_print.specs.Tokens.{Tokens, each}
 use Rattle.pale_print.specs.StatementTokens.{value_tokens, statement_node, statement_tokens}

@@ -23,8 +23,7 @@ use Rattle.pale_syntax.specs.declared.tree.declaration.VariantDeclaration.{Varia
 use Rattle.pale_syntax.specs.MakingParts.{Parts, nothing}
 use Rattle.pale_syntax.specs.ProgramGrammar.{ProgramSymbol, program_grammar, rows_of, reads, push_name, type as makes, predicate as tells}
 use Rattle.pale_parse.specs.Productions.{program_rules, productions_of}
-use Rattle.pale_parse.specs.ParseFirsts.{number_of, first_set}
-use Rattle.pale_parse.specs.ParseTable.{program_table, mark_number}
+use Rattle.pale_parse.specs.ParseTable.{number_of, first_set, program_table, mark_number}
 use Rattle.pale_print.specs.Placeless.{placeless_name, placeless_form, placeless_field, placeless_variant, placeless_type}
 use Rattle.pale_print.specs.Placeless.{placeless_predicate_parameter, placeless_predicate}
 use Rattle.pale_print.specs.Tokens.{each, each_behind, separated}

@@ -1,6 +1,5 @@
 pub mod Writing
 pub mod Fitting
-pub mod ReadValuesFit
 pub mod ReadFits
 pub mod ReadNext
 pub mod ReadFresh

@@ -1,7 +1,7 @@
 //! The FIRST sets: the tokens with which each row may begin.
 
 ghost use Rattle.std.specs.Prelude.{◌≡◌};
-ghost use Rattle.pale_parse.specs.ParseFirsts.{first_set};
+ghost use Rattle.pale_parse.specs.ParseTable.{first_set};
 
 use super::production::ProgramProduction;
 use pale_syntax::ProgramKind;

@@ -1,7 +1,7 @@
 //! A number for each kind of token.
 
 ghost use Rattle.std.specs.Prelude.{◌≡◌};
-ghost use Rattle.pale_parse.specs.ParseFirsts.{number_of};
+ghost use Rattle.pale_parse.specs.ParseTable.{number_of};
 
 use pale_syntax::ProgramKind;
 
