@@ -195,7 +195,7 @@ fn of_none(
 }
 
 /// The formula of a line.
-pub(crate) fn asked(alloc: Global, l: &Layout<'_>, view: &View, line: &str) -> Result<Asked> {
+pub(crate) fn asked_by(alloc: Global, l: &Layout<'_>, view: &View, line: &str) -> Result<Asked> {
     let mut words = line.split_whitespace();
     let what = word(&mut words);
     if let Some(subject) = Subject::of(l.types(), what, &mut words)? {

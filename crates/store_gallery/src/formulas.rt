@@ -2,7 +2,7 @@
 
 ghost use Rattle.store_gallery.specs.Known.{KnowsVars};
 
-use crate::asked::{About, Asked, asked};
+use crate::asked::{About, Asked, asked_by};
 use crate::places::{at_place, holds, put};
 use crate::spelling::spelled;
 use crate::tables::{types_of, vars_of};
@@ -116,7 +116,7 @@ fn write_all_asked(
         if let Some(ask) = line.strip_prefix(ASK) {
             out.push_str(ask)?;
             out.push_str(":")?;
-            write_asked(alloc, &asked(alloc, l, view, ask)?, scene, out)?;
+            write_asked(alloc, &asked_by(alloc, l, view, ask)?, scene, out)?;
             out.push_str("\n")?;
         }
     }

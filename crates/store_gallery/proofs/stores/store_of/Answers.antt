@@ -8,4 +8,4 @@ returns c =
     let store = c.in_ok-read_store.field-0 in
     subst (λ types. Fits types c.args.l.now.vars store) c.types.ensures.value
     (subst (λ vars. Fits c.types.result.now vars store) c.vars.ensures.value
-    (read_stores_fit c.types.result.now c.vars.result.now c.args.text.now store c.in_ok-read_store.ensures.store))
+    (read_stores_fit c.types.result.now c.vars.result.now _ store c.in_ok-read_store.ensures.store))
