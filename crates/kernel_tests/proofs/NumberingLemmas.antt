@@ -40,7 +40,8 @@ is_long : (t : Bool) (found : Option ℕ) (answer : ℕ) → (if t then found el
 is_long true found answer e = refl
 is_long false found answer e = absurd (none-some answer e)
 
-module _ (old new : ℕ × ℕ → Option ℕ) (key : ℕ × ℕ) (number : ℕ) (updates : (q : ℕ × ℕ) → new q ≡ cond (same key q) (Some number) (old q)) where
+module _ (old new : ℕ × ℕ → Option ℕ) (key : ℕ × ℕ) (number : ℕ)
+    (updates : (q : ℕ × ℕ) → new q ≡ cond (same key q) (Some number) (old q)) where
   elsewhere : (states : List ℕ) → same key (pair_of states) ≡ false → numbered new states ≡ numbered old states
   elsewhere states e =
       ap (λ (found : Option ℕ). if nat_eq (length states) 2 then option_map (λ number. number % 2 ^ 31) found else None)

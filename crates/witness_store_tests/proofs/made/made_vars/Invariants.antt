@@ -1,5 +1,0 @@
-use Rattle.witness_store_tests.specs.Known.{KnowsVars}
-use Rattle.witness_store_tests.proofs.made.made_vars.Given as goal
-
-abbrev pub invariant-loop-name : goal.invariant-loop-name
-invariant-loop-name l = KnowsVars l.types l.vars
