@@ -1,7 +1,10 @@
 //! Forms of assertions without parts, as formulas.
 
-ghost use Rattle.std.specs.Prelude.{◌≡◌, IfOk};
+ghost use Rattle.std.specs.Prelude.{◌≡◌, [], ◌∷◌, IfOk};
+ghost use Rattle.ws2s_forms.specs.Forms as forms;
+ghost use Rattle.graph_view.specs.Routes as routes;
 ghost use Rattle.graph_view.specs.Sights.{sight_of};
+ghost use Rattle.site_view.specs.Claims as formulas;
 ghost use Rattle.claim_formula.specs.Joining.{variant_formula, same_formula, member_formula, subset_formula, walk_formula};
 
 use crate::terms::{base_value, is_value};
@@ -88,6 +91,29 @@ pub(crate) fn subset_formula(
     all1(alloc, next, imp(alloc, both, there)?)
 }
 
+/// The values of two terms are the live cells on two tracks, and the route leads from the first to the second; `own` is the next
+/// track where the terms stand.
+fn walk_between(
+    alloc: Global,
+    l: &Layout<'_>,
+    view: &View,
+    own: u32,
+    next: u32,
+    from: (&Term, u32),
+    route: &Route,
+    to: (&Term, u32),
+) -> Result<Formula, AllocError>
+    ensures { IfOk result (λ formula. formula ≡ forms.and_list next
+        (formulas.is_value l.now.types (sight_of l.now.vars view.now) view.now.vars own from.0.now next from.1
+        ∷ formulas.is_value l.now.types (sight_of l.now.vars view.now) view.now.vars own to.0.now next to.1
+        ∷ routes.walk l.now.types (sight_of l.now.vars view.now) route.now next from.1 to.1 ∷ [])) }
+{
+    let start = is_value(alloc, l, view, own, next, from.0, from.1)?;
+    let end = is_value(alloc, l, view, own, next, to.0, to.1)?;
+    let leads = walk(alloc, l, view, route, next, from.1, to.1)?;
+    and_list(alloc, next, vec![in alloc; start, end, leads]?)
+}
+
 /// `t<R>u`.
 pub(crate) fn walk_formula(
     alloc: Global,
@@ -103,10 +129,7 @@ pub(crate) fn walk_formula(
 {
     let second = later(next, 1)?;
     let inner = later(second, 1)?;
-    let start = is_value(alloc, l, view, next, inner, from, next)?;
-    let end = is_value(alloc, l, view, next, inner, to, second)?;
-    let leads = walk(alloc, l, view, route, inner, next, second)?;
-    let parts = vec![in alloc; start, end, leads]?;
-    let some = ex1(alloc, second, and_list(alloc, inner, parts)?)?;
+    let leads = walk_between(alloc, l, view, next, inner, (from, next), route, (to, second))?;
+    let some = ex1(alloc, second, leads)?;
     ex1(alloc, next, some)
 }

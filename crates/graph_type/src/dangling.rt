@@ -8,13 +8,13 @@ ghost use Rattle.graph_view.specs.Sights.{sight_of};
 use crate::live::{is_dead, is_live, lives_in};
 use crate::naming::names;
 use crate::selecting::{Kinds, fields_of_kind};
-use crate::syms::all_three;
+use crate::syms::some_two;
 use graph_view::{Sym, View};
 use std::alloc::{AllocError, Global};
 use store_core::FieldId;
 use tree_encode::Layout;
 use ws2s_core::Formula;
-use ws2s_forms::{ex1, later, or_list};
+use ws2s_forms::{later, or_list};
 
 /// The field of some live cell names a dead cell.
 fn field_dangles(
@@ -31,8 +31,8 @@ fn field_dangles(
     let owned = lives_in(alloc, l, view, inner, f.ty, next)?;
     let named = names(alloc, l, view, inner, f, next, other)?;
     let live = is_live(alloc, l, view, inner, other)?;
-    let all = all_three(alloc, inner, owned, named, Formula::not(alloc, live)?)?;
-    ex1(alloc, next, ex1(alloc, other, all)?)
+    let dead = Formula::not(alloc, live)?;
+    some_two(alloc, next, other, inner, owned, named, dead)
 }
 
 /// One of the values is a dead cell.

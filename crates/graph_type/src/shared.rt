@@ -13,13 +13,13 @@ ghost use Rattle.graph_view.specs.Sights.{sight_of};
 use crate::live::is_live;
 use crate::naming::{edge, names_by_data};
 use crate::selecting::{Kinds, push_of_kind};
-use crate::syms::{all_three, is_in};
+use crate::syms::{all_three, are_apart, is_in, some_two};
 use graph_view::{Sym, View};
 use std::alloc::{AllocError, Global};
 use store_core::{FieldId, TypeId};
 use tree_encode::Layout;
-use ws2s_core::{Formula, Track};
-use ws2s_forms::{equal, ex1, later, or_list};
+use ws2s_core::Formula;
+use ws2s_forms::{ex1, later, or_list};
 
 /// A value is the cell on track `c`, and so is each of the others.
 fn push_both(
@@ -93,12 +93,10 @@ fn two_above(
 {
     let other = later(next, 1)?;
     let inner = later(next, 2)?;
-    let same = equal(alloc, Track(next), Track(other))?;
-    let apart = Formula::not(alloc, same)?;
+    let apart = are_apart(alloc, next, other)?;
     let one = edge(alloc, l, view, inner, next, c)?;
     let two = edge(alloc, l, view, inner, other, c)?;
-    let all = all_three(alloc, inner, apart, one, two)?;
-    ex1(alloc, next, ex1(alloc, other, all)?)
+    some_two(alloc, next, other, inner, apart, one, two)
 }
 
 /// Two data fields of one cell name the cell on track `c`.
@@ -196,6 +194,23 @@ fn push_in_types(
     Ok(())
 }
 
+/// One of the values is the cell on track `c`, and so is what some data field names.
+fn is_value_and_below(
+    alloc: Global,
+    l: &Layout<'_>,
+    view: &View,
+    next: u32,
+    values: &[Sym],
+    c: u32,
+) -> Result<Formula, AllocError>
+    ensures { IfOk result (λ formula. formula ≡ And (forms.or_list next (map (syms.is_in next c) values.now))
+        (formulas.is_below l.now.types (sight_of l.now.vars view.now) next c)) }
+{
+    let named = or_list(alloc, next, each_is(alloc, next, c, values)?)?;
+    let below = is_below(alloc, l, view, next, c)?;
+    Formula::and(alloc, named, below)
+}
+
 /// The ways in which the cell on track `c` is named twice.
 fn named_twice(
     alloc: Global,
@@ -210,9 +225,7 @@ fn named_twice(
 {
     let mut parts = Vec::new(alloc);
     push_value_pairs(alloc, &mut parts, next, c, values)?;
-    let named = or_list(alloc, next, each_is(alloc, next, c, values)?)?;
-    let below = is_below(alloc, l, view, next, c)?;
-    parts.push(Formula::and(alloc, named, below)?)?;
+    parts.push(is_value_and_below(alloc, l, view, next, values, c)?)?;
     parts.push(two_above(alloc, l, view, next, c)?)?;
     push_in_types(alloc, &mut parts, l, view, next, c)?;
     Ok(parts)

@@ -1,13 +1,14 @@
 //! Values and guards as formulas.
 
 ghost use Rattle.std.specs.Prelude.{◌≡◌, [], ◌∷◌, IfOk};
+ghost use Rattle.ws2s_core.specs.declared.formula.Formula.TheVariants.{Not};
 ghost use Rattle.ws2s_forms.specs.Forms as forms;
 ghost use Rattle.graph_view.specs.Syms as formulas;
 
 use graph_view::Sym;
 use std::alloc::{AllocError, Global};
 use ws2s_core::{Formula, Track};
-use ws2s_forms::{empty_at, equal, false_at, flag, true_at};
+use ws2s_forms::{empty_at, equal, ex1, false_at, flag, true_at};
 
 /// The cell on track `a` is the value.
 ///
@@ -107,4 +108,28 @@ pub(crate) fn all_three(
 {
     let both = Formula::and(alloc, one, two)?;
     Formula::and(alloc, both, three)
+}
+
+/// The cells on the two tracks are not the same.
+pub(crate) fn are_apart(alloc: Global, a: u32, b: u32) -> Result<Formula, AllocError>
+    ensures { IfOk result (λ formula. formula ≡ Not (forms.equal (forms.track a) (forms.track b))) }
+{
+    let same = equal(alloc, Track(a), Track(b))?;
+    Formula::not(alloc, same)
+}
+
+/// Some cell on track `a` and some cell on track `b` of which all three are true, whose next track is `next`.
+pub(crate) fn some_two(
+    alloc: Global,
+    a: u32,
+    b: u32,
+    next: u32,
+    one: Formula,
+    two: Formula,
+    three: Formula,
+) -> Result<Formula, AllocError>
+    ensures { IfOk result (λ formula. formula ≡ forms.ex1 a (forms.ex1 b (forms.and_list next (one ∷ two ∷ three ∷ [])))) }
+{
+    let all = all_three(alloc, next, one, two, three)?;
+    ex1(alloc, a, ex1(alloc, b, all)?)
 }
