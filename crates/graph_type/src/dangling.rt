@@ -5,10 +5,8 @@ ghost use Rattle.graph_view.specs.Cuts as formulas;
 ghost use Rattle.graph_view.specs.Live as live;
 ghost use Rattle.graph_view.specs.Sights.{sight_of};
 
-use crate::live::{is_dead, is_live, lives_in};
 use crate::naming::names;
-use crate::selecting::{Kinds, fields_of_kind};
-use crate::syms::some_two;
+use graph_cells::{Kinds, fields_of_kind, is_dead, is_live, lives_in, some_two};
 use graph_view::{Sym, View};
 use std::alloc::{AllocError, Global};
 use store_core::FieldId;

@@ -8,7 +8,7 @@ ghost use Rattle.graph_view.specs.Cuts as formulas;
 ghost use Rattle.graph_view.specs.Sights.{var_slots, at_first};
 
 use crate::naming::first_destination;
-use crate::syms::all_three;
+use graph_cells::all_three;
 use std::alloc::{AllocError, Global};
 use store_core::{FieldId, FieldKind, Route, TypeId};
 use tree_encode::Layout;

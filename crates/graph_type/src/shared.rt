@@ -10,10 +10,8 @@ ghost use Rattle.graph_view.specs.Cuts.{both_name, two_fields, pairs, field_pair
 ghost use Rattle.graph_view.specs.Syms as syms;
 ghost use Rattle.graph_view.specs.Sights.{sight_of};
 
-use crate::live::is_live;
 use crate::naming::{edge, names_by_data};
-use crate::selecting::{Kinds, push_of_kind};
-use crate::syms::{all_three, are_apart, is_in, some_two};
+use graph_cells::{Kinds, all_three, are_apart, is_in, is_live, push_of_kind, some_two};
 use graph_view::{Sym, View};
 use std::alloc::{AllocError, Global};
 use store_core::{FieldId, TypeId};
