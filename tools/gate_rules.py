@@ -8,10 +8,11 @@ It prints, with file and line, and ends with status 1 at any of these:
   more than one must-fail edit in a crate, or more than eight in all      others go to refusals/
   a test function in a crate that others stand on       such a crate is proved twice
   a source of more than 500 lines, or a line of more than 160 columns
-  a call that only a proof needs
+  a call that only a proof needs, marked by a comment `Only for its clause ..`
   a row of the gate's table in docs/performance.md for a crate that isn't there, or a crate without a row
   an edit of refusals/ that can't be applied to the files as they are
-Only the standard library is used, and it takes a second.
+What stood there before the rules is listed in STANDING with its number and why it stays: it may shrink, and the entry
+with it, and nothing is added. Only the standard library is used, and it takes a second.
 """
 import re
 import sys
@@ -21,6 +22,20 @@ import refusals
 
 TOP = Path(__file__).resolve().parent.parent
 MOST_QUESTIONS, MOST_EDITS, MOST_LINES, MOST_COLUMNS = 7, 8, 500, 160
+# Sources that are longer than the rule, with their lines. Of one whose cases are told by unfolding, a part in another file
+# can't be unfolded there; the others are one chain of lemmas over one set of names.
+STANDING_LINES = {
+    "crates/pale_parse/specs/ParseTable.antt": 687,
+    "crates/pale_print_laws/proofs/Connectives.antt": 557,
+    "crates/pale_print_laws/proofs/FromAssertions.antt": 502,
+    "crates/pale_print_laws/proofs/FromProcedures.antt": 529,
+    "crates/store_text/proofs/ReadFits.antt": 566,
+    "crates/ws2s_narrow/proofs/NarrowLemmas.antt": 508,
+    "crates/ws2s_read/proofs/ResolvedLemmas.antt": 605,
+}
+# Calls for a proof alone, by crate: what they tell is true of every value of the type, and no clause that the function
+# requires says it.
+STANDING_CALLS = {}
 FUNCTION = re.compile(r"^([ \t]*)(?:pub(?:\([a-z]+\))? )?(?:const )?fn (\w+).*?^\1\}[ \t]*$", re.M | re.S)
 COMMENT_OR_TEXT = re.compile(r"//[^\n]*|b?\"(?:\\.|[^\"\\])*\"|b?'(?:\\.|[^'\\\n])'", re.S)
 
@@ -35,20 +50,26 @@ def line_of(text, at):
 
 
 def function_faults(path, text):
-    """Functions that ask too often whether there was memory, and calls for a proof alone."""
+    """Functions that ask too often whether there was memory."""
     code = COMMENT_OR_TEXT.sub(spaced, text)
     for found in FUNCTION.finditer(code):
         asked = found.group(0).count("?")
         if asked > MOST_QUESTIONS:
             yield path, line_of(code, found.start()), f"{found.group(2)} has {asked} `?`, and {MOST_QUESTIONS} are the most"
-    for found in re.finditer("Only for its clause", text):
-        yield path, line_of(text, found.start()), "a call that only a proof needs"
+
+
+def call_faults(name, sources):
+    """Calls for a proof alone, beyond those of the crate that stand."""
+    found = [(path, line_of(text, at.start())) for path, text in sources for at in re.finditer("Only for (its|their) clause", text)]
+    for path, number in found[STANDING_CALLS.get(name, 0) :]:
+        yield path, number, "a call that only a proof needs"
 
 
 def size_faults(path, text):
     lines = text.splitlines()
-    if len(lines) > MOST_LINES:
-        yield path, MOST_LINES + 1, f"{len(lines)} lines, and {MOST_LINES} are the most"
+    most = STANDING_LINES.get(str(path.relative_to(TOP)), MOST_LINES)
+    if len(lines) > most:
+        yield path, most + 1, f"{len(lines)} lines, and {most} are the most"
     for number, line in enumerate(lines, 1):
         if len(line) > MOST_COLUMNS:
             yield path, number, f"{len(line)} columns, and {MOST_COLUMNS} are the most"
@@ -57,6 +78,8 @@ def size_faults(path, text):
 def source_faults(known):
     stood_on = {one for libraries in known.values() for one in libraries}
     for name in sorted(known):
+        sources = [(path, path.read_text()) for path in sorted((TOP / "crates" / name / "src").rglob("*.rt"))]
+        yield from call_faults(name, sources)
         for part, suffix in (("src", ".rt"), ("specs", ".antt"), ("proofs", ".antt")):
             for path in sorted((TOP / "crates" / name / part).rglob(f"*{suffix}")):
                 text = path.read_text()

@@ -1,0 +1,100 @@
+#!/usr/bin/env python3
+"""Builds a program of the repository without proving it, at -O2, and compares what it writes with what is stored.
+
+    tools/unproved.py NAME
+
+NAME is a crate with a `main`, as `pale` or `pale_gallery`. `rt try` lowers the program and all crates below it, and
+compiles that with checks that find faults, which makes it slow; here the kit's own clang compiles the same code
+without them, so that it is about as fast as a proved build. The program is left at crates/NAME/out/unproved. Where
+the crate has a file `stdin`, the program is run on it, and what it writes is compared with the file `stdout`; the
+status is 1 where they differ. Nothing that such a build answers counts as proved.
+"""
+import os
+import shutil
+import signal
+import subprocess
+import sys
+import tempfile
+import time
+from pathlib import Path
+
+TOP = Path(__file__).resolve().parent.parent
+KIT = Path(shutil.which("rt") or sys.exit("unproved: rt isn't on the path")).resolve().parent.parent
+CLANG = KIT / "toolchain" / "bin" / "clang"
+# The check that `rt try` puts where a proof says that control doesn't come.
+TRAP = "call void @llvm.trap()"
+
+
+def as_text(code, room):
+    """The code as text."""
+    text = room / "module.ll"
+    subprocess.run([CLANG, "-O0", "-S", "-emit-llvm", "-x", "ir", code, "-o", text], check=True, stderr=subprocess.DEVNULL)
+    return text
+
+
+def has_main(text):
+    with open(text) as lines:
+        return any(line.startswith("define") and "@main(" in line for line in lines)
+
+
+def lowered(crate, room):
+    """The code of the program, as text, as `rt try` hands it to clang, which is stopped then."""
+    scratch = room / "scratch"
+    scratch.mkdir()
+    with open(room / "log", "w") as log:
+        child = subprocess.Popen(["rt", "try"], cwd=crate, env={**os.environ, "TMPDIR": str(scratch)}, stdin=subprocess.DEVNULL, stdout=log, stderr=log)
+    kept, size = room / "module.bc", 0
+    while child.poll() is None:
+        time.sleep(0.5)
+        try:
+            now = max((it.stat().st_size for it in scratch.rglob("module.bc")), default=0)
+            if now and now == size:
+                shutil.copyfile(next(it for it in scratch.rglob("module.bc") if it.stat().st_size == now), kept)
+                text = as_text(kept, room)
+                if has_main(text):
+                    child.send_signal(signal.SIGTERM)
+                    child.wait()
+                    return text
+            size = now
+        except (FileNotFoundError, StopIteration, subprocess.CalledProcessError):
+            size = 0
+    sys.exit("unproved: rt try made no code:\n" + (room / "log").read_text()[-2000:])
+
+
+def compiled(text, room, to):
+    """Compiles the code without the checks, and links it."""
+    plain, object_file = room / "plain.ll", room / "module.o"
+    with open(text) as lines, open(plain, "w") as others:
+        others.writelines(line for line in lines if TRAP not in line)
+    subprocess.run([CLANG, "-O2", "-c", "-x", "ir", plain, "-o", object_file], check=True)
+    subprocess.run(["gcc", object_file, KIT / "c" / "liblibc_c.a", KIT / "c" / "libos_c.a", "-o", to], check=True)
+
+
+def compare(crate, program):
+    """Whether the program writes what is stored, where the crate has an input."""
+    given, stored = crate / "stdin", crate / "stdout"
+    if not given.exists():
+        return True
+    with open(given) as text:
+        ran = subprocess.run([program], stdin=text, stdout=subprocess.PIPE)
+    wanted = stored.read_bytes() if stored.exists() else b""
+    is_same = ran.stdout == wanted and ran.returncode == 0
+    print(f"unproved: {crate.name} wrote {'what is stored' if is_same else 'something else than is stored'}, {len(ran.stdout)} bytes")
+    return is_same
+
+
+def main():
+    if len(sys.argv) != 2 or not (TOP / "crates" / sys.argv[1] / "src" / "main.rt").exists():
+        sys.exit(__doc__)
+    crate = TOP / "crates" / sys.argv[1]
+    program = crate / "out" / "unproved"
+    program.parent.mkdir(exist_ok=True)
+    began = time.time()
+    with tempfile.TemporaryDirectory(prefix="unproved-") as room:
+        compiled(lowered(crate, Path(room)), Path(room), program)
+    print(f"unproved: built {program.relative_to(TOP)} in {time.time() - began:.0f} s")
+    return 0 if compare(crate, program) else 1
+
+
+if __name__ == "__main__":
+    sys.exit(main())
