@@ -32,13 +32,13 @@ module _ {N P A K : Type 0} (rules : Rules N P A K) (table : Table N P K) where
   }
 
   -- a move that puts one row on another
-  pub moves_by_two : (next : Option K) (row row' rest r r' : List (Symbol N A K)) (d : ℕ) (old mid new : Work N A K) →
+  pub moves_by_two : (next : Option K) (row row' rest r r' : List (Symbol N A K)) (d : ℕ) (old new : Work N A K) →
       row ≡ row' → IsMove rules table next (Row row' d (stack_of old)) (Row r' d (Row rest d (stack_of old))) [] →
-      stack_of mid ≡ Row rest d (stack_of old) → stack_of new ≡ Row r d (stack_of mid) → r ≡ r' → mid.events ≡ old.events → new.events ≡ mid.events →
+      stack_of new ≡ Row r d (Row rest d (stack_of old)) → r ≡ r' → new.events ≡ old.events →
       MovesOnce rules table next (Row row d (stack_of old)) old new
-  moves_by_two next row row' rest r r' d old mid new same m first second production one two =
-      let to : stack_of new ≡ Row r' d (Row rest d (stack_of old)) = second ∙ ap (λ x. Row x d (stack_of mid)) production ∙ ap (λ x. Row r' d x) first in
-      moves_by next row row' d (Row r' d (Row rest d (stack_of old))) [] old new same m to (two ∙ one ∙ sym (append-nil old.events))
+  moves_by_two next row row' rest r r' d old new same m both production one =
+      moves_by next row row' d (Row r' d (Row rest d (stack_of old))) [] old new same m
+      (both ∙ ap (λ x. Row x d (Row rest d (stack_of old))) production) (one ∙ sym (append-nil old.events))
 
   -- a move that does nothing but put a row on
   pub moves_by_one : (next : Option K) (row row' r : List (Symbol N A K)) (d : ℕ) (old new : Work N A K) →

@@ -9,7 +9,7 @@ ghost use Rattle.ll1_reader.specs.Advancing.{Advances, TakesToken, Exposes, IsFe
 use crate::grammar::Grammar;
 use crate::predict::choose;
 use crate::symbol::{Event, Symbol};
-use crate::work::{Work, push_row};
+use crate::work::{Work, push_done, push_row, push_rows};
 use std::alloc::AllocError;
 
 /// What became of a step between two tokens.
@@ -52,16 +52,14 @@ fn make_move<'a, G: Grammar>(
             Ok(Advance::Ready)
         }
         Symbol::Act(act) => {
-            work.events.push(Event::Act(act))?;
-            push_row(work, rest, depth)?;
+            push_done(work, act, rest, depth)?;
             Ok(Advance::Moved)
         }
         Symbol::Once(nonterminal) => {
             let Some(production) = choose::<G>(nonterminal, next) else {
                 return Ok(Advance::Stuck);
             };
-            push_row(work, rest, depth)?;
-            push_row(work, G::row(production), depth)?;
+            push_rows(work, rest, G::row(production), depth)?;
             Ok(Advance::Moved)
         }
         Symbol::Maybe(nonterminal) => {
@@ -76,8 +74,7 @@ fn make_move<'a, G: Grammar>(
                 push_row(work, rest, depth)?;
                 return Ok(Advance::Moved);
             };
-            push_row(work, row, depth)?;
-            push_row(work, G::row(production), depth)?;
+            push_rows(work, row, G::row(production), depth)?;
             Ok(Advance::Moved)
         }
     }

@@ -1,6 +1,7 @@
 //! What is still to be read, and what happened so far.
 
 ghost use Rattle.std.specs.Prelude.{◌≡◌, [], ◌∷◌, ◌++◌, IfOk, OnOk};
+ghost use Rattle.ll1_reader.specs.declared.symbol.Event.TheVariants as event;
 ghost use Rattle.ll1_reader.specs.Readings.{Row, Bottom};
 ghost use Rattle.ll1_reader.specs.Frames.{stack_of};
 
@@ -49,4 +50,32 @@ pub(crate) fn push_row<'a, N: Copy, A: Copy, K: Copy>(
 {
     work.frames.push(Frame { rest, depth })?;
     Ok(())
+}
+
+/// Puts two rows on top, this one above that one.
+pub(crate) fn push_rows<'a, N: Copy, A: Copy, K: Copy>(
+    work: &mut Work<'a, N, A, K>,
+    below: &'a [Symbol<N, A, K>],
+    above: &'a [Symbol<N, A, K>],
+    depth: u32,
+) -> Result<(), AllocError>
+    ensures stack { OnOk result (stack_of work.new ≡ Row above.now depth (Row below.now depth (stack_of work.old))) }
+    ensures events { OnOk result (work.new.events ≡ work.old.events) }
+{
+    push_row(work, below, depth)?;
+    push_row(work, above, depth)
+}
+
+/// Puts a row on top, before which an act was done.
+pub(crate) fn push_done<'a, N: Copy, A: Copy, K: Copy>(
+    work: &mut Work<'a, N, A, K>,
+    act: A,
+    rest: &'a [Symbol<N, A, K>],
+    depth: u32,
+) -> Result<(), AllocError>
+    ensures stack { OnOk result (stack_of work.new ≡ Row rest.now depth (stack_of work.old)) }
+    ensures events { OnOk result (work.new.events ≡ work.old.events ++ event.Act act ∷ []) }
+{
+    work.events.push(Event::Act(act))?;
+    push_row(work, rest, depth)
 }
