@@ -1,6 +1,5 @@
 -- On assertions with what is handed over put in, form by form.
-use Rattle.std.proofs.Common.{◌≡◌, ℕ, Bool, List, [], ◌∷◌, ◌++◌, length, map, append-nil, suc, true, false, Some, refl, sym, ap, ◌∙◌, subst}
-use Rattle.std.specs.Prelude.{nat_lt}
+use Rattle.std.proofs.Common.{◌≡◌, ℕ, Bool, List, [], ◌∷◌, ◌++◌, map, append-nil, suc, true, false, Some, refl, sym, ap, ◌∙◌, subst}
 use Rattle.std.proofs.lemmas.List.{map-append}
 use Rattle.store_logic.specs.declared.term.Base.{Base}
 use Rattle.store_logic.specs.declared.term.Base.TheVariants as base
@@ -9,14 +8,14 @@ use Rattle.store_logic.specs.declared.term.Term.TheVariants as term
 use Rattle.store_logic.specs.declared.arg.Arg.{Arg}
 use Rattle.store_logic.specs.declared.arg.Arg.TheVariants as arg
 use Rattle.store_core.specs.declared.ids.FieldId.{FieldId}
-use Rattle.store_logic.specs.declared.assertion.Assertion.{Assertion, out-Assertion, roll-Assertion, out-roll-Assertion}
+use Rattle.store_logic.specs.declared.assertion.Assertion.{Assertion, roll-Assertion, out-roll-Assertion}
 use Rattle.store_logic.specs.declared.assertion.Assertion.TheVariants.{rolls-True, rolls-False, rolls-Truth}
 use Rattle.store_logic.specs.declared.assertion.Assertion.TheVariants as assertion
 use Rattle.store_logic.specs.declared.assertion.Assertion.TheOpen.{Assertion-F}
 use Rattle.store_logic.specs.declared.assertion.Assertion.TheFolds.{fold-roll-Assertion}
 use Rattle.store_logic.specs.Filling.{Filling, of_term, of_truth, shifted, put_under, path_from, truth_from, name_in, constant, is_true, filled_term}
 use Rattle.store_logic.specs.Filling.{filled_truth, filled_set, filled_arg, filled}
-use Rattle.store_logic.specs.Postfix.{Form, without_parts, form_of, parts_of, has_parts, postfix_of, postfix_of_node, applied}
+use Rattle.store_logic.specs.Postfix.{Form, without_parts, form_of, postfix_of, postfix_of_node, applied}
 use Rattle.store_logic.proofs.ExpandingForms.{filled-True, filled-False, filled-Truth, filled-Is, filled-Same, filled-Member, filled-Subset, filled-Walk}
 use Rattle.store_logic.proofs.ExpandingForms.{filled-Pred}
 use Rattle.store_logic.proofs.ExpandingForms.{filled-Not, filled-And, filled-Or, filled-Imp, filled-Iff, filled-Ex, filled-All, filled-ExSet, filled-AllSet}
@@ -226,29 +225,3 @@ module _ (puts : List Put) where
 
   pub postfix-with_puts : (a : Assertion) → postfix_of (with_puts puts a) ≡ map (filled_form puts) (postfix_of a)
   postfix-with_puts a = assertion-induction Goes forms_go a 0
-
--- ---- a form that has parts stays
-
-filled_node : (puts : List Put) (x : Assertion-F Assertion) → nat_lt 0 (length (parts_of Assertion x)) ≡ true →
-    filled_form puts (without_parts Assertion x) ≡ without_parts Assertion x
-filled_node puts Assertion-F.True has = absurd cc
-filled_node puts Assertion-F.False has = absurd cc
-filled_node puts (Assertion-F.Truth t) has = absurd cc
-filled_node puts (Assertion-F.Is t v) has = absurd cc
-filled_node puts (Assertion-F.Same t u) has = absurd cc
-filled_node puts (Assertion-F.Member t set) has = absurd cc
-filled_node puts (Assertion-F.Subset set other) has = absurd cc
-filled_node puts (Assertion-F.Walk t along u) has = absurd cc
-filled_node puts (Assertion-F.Pred k args) has = absurd cc
-filled_node puts (Assertion-F.Not a) has = refl
-filled_node puts (Assertion-F.And a b) has = refl
-filled_node puts (Assertion-F.Or a b) has = refl
-filled_node puts (Assertion-F.Imp a b) has = refl
-filled_node puts (Assertion-F.Iff a b) has = refl
-filled_node puts (Assertion-F.Ex ty a) has = refl
-filled_node puts (Assertion-F.All ty a) has = refl
-filled_node puts (Assertion-F.ExSet ty a) has = refl
-filled_node puts (Assertion-F.AllSet ty a) has = refl
-
-pub filled_form-parts : (puts : List Put) (a : Assertion) → has_parts a ≡ true → filled_form puts (form_of a) ≡ form_of a
-filled_form-parts puts a has = filled_node puts (out-Assertion a) has
