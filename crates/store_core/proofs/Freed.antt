@@ -1,5 +1,6 @@
 -- The live cells among those that are kept, some of which were freed.
-use Rattle.std.proofs.Common.{◌≡◌, ◌≢◌, ℕ, zero, suc, ◌+◌, ◌<◌, ◌≤◌, Bool, true, false, cond, List, [], ◌∷◌, ◌++◌, length, set, take, Option, Some, None, refl, sym}
+use Rattle.std.proofs.Common.{◌≡◌, ◌≢◌, ℕ, zero, suc, ◌+◌, ◌<◌, ◌≤◌, Bool, true, false, cond, List, [], ◌∷◌, ◌++◌, length, set, take}
+use Rattle.std.proofs.Common.{Option, Some, None, refl, sym}
 use Rattle.std.proofs.Common.{ap, ◌∙◌, subst, arith, slice_get, IsSomeAnd, IfSome, Bor}
 use Rattle.std.specs.List.{AllByRecursion, filter}
 use Rattle.std.specs.Option.{option_map, option_copied}
@@ -270,7 +271,8 @@ module _ (bodies : List CellBody) (order : AreInOrder bodies) (q : ℕ) where
   get-none lacks = get-from_sorted nat_cmp (cells_of (live_of bodies)) q (sorted_cells (live_of bodies) (order_live bodies order)) ∙ find_none bodies q lacks
 
   -- the cell at a place with this number is the map's where it is live
-  pub get-at : (i : ℕ) (b : CellBody) → slice_get bodies i ≡ Some b → b.number ≡ q → get (map_of (live_of bodies)) q ≡ cond b.is_live (Some (cell_entry b).1) None
+  pub get-at : (i : ℕ) (b : CellBody) → slice_get bodies i ≡ Some b → b.number ≡ q →
+      get (map_of (live_of bodies)) q ≡ cond b.is_live (Some (cell_entry b).1) None
   get-at i b at is =
       get-from_sorted nat_cmp (cells_of (live_of bodies)) q (sorted_cells (live_of bodies) (order_live bodies order))
       ∙ ap (λ n. find nat_cmp n (cells_of (live_of bodies))) (sym is) ∙ find_live bodies order i b at

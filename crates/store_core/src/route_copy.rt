@@ -1,6 +1,6 @@
 //! Copies of routes.
 
-ghost use Rattle.std.specs.Prelude.{◌≡◌, ◌++◌, Some, IfOk, OnOk, IsSome, map, reverse};
+ghost use Rattle.std.specs.Prelude.{◌≡◌, ◌<◌, ◌++◌, ◌∷◌, length, Some, IfOk, OnOk, IsSome, map, reverse};
 ghost use Rattle.store_core.specs.declared.kind.Route.{Route, out-Route};
 ghost use Rattle.store_core.specs.Postfix.{form_of, parts_of, postfix_of, applied};
 
@@ -54,6 +54,19 @@ fn push_parts<'a>(pending: &mut Vec<&'a Route>, route: &'a Route) -> Result<(), 
     Ok(())
 }
 
+/// Takes the last two routes.
+fn take_two(
+    alloc: Global,
+    routes: &mut Vec<Route>,
+) -> Result<(Boxed<Route>, Boxed<Route>), AllocError>
+    requires { 1 < length routes.old.items }
+    ensures { IfOk result (λ two. reverse routes.old.items ≡ two.1 ∷ two.0 ∷ reverse routes.new.items) }
+{
+    let second = Boxed::new(alloc, routes.pop().unwrap())?;
+    let first = Boxed::new(alloc, routes.pop().unwrap())?;
+    Ok((first, second))
+}
+
 /// Puts the route of this form, with the last routes as its parts, in their place.
 fn apply(alloc: Global, routes: &mut Vec<Route>, form: &Route) -> Result<(), AllocError>
     requires { IsSome (applied (form_of form.now) (reverse routes.old.items)) }
@@ -72,13 +85,11 @@ fn apply(alloc: Global, routes: &mut Vec<Route>, form: &Route) -> Result<(), All
             *truth,
         ),
         Route::Then(_, _) => {
-            let second = Boxed::new(alloc, routes.pop().unwrap())?;
-            let first = Boxed::new(alloc, routes.pop().unwrap())?;
+            let (first, second) = take_two(alloc, routes)?;
             Route::Then(first, second)
         }
         Route::Or(_, _) => {
-            let other = Boxed::new(alloc, routes.pop().unwrap())?;
-            let one = Boxed::new(alloc, routes.pop().unwrap())?;
+            let (one, other) = take_two(alloc, routes)?;
             Route::Or(one, other)
         }
         Route::Star(_) => Route::Star(Boxed::new(alloc, routes.pop().unwrap())?),

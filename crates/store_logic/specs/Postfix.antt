@@ -1,5 +1,5 @@
 -- Assertions in postfix order: each form after its parts. (Reverse Polish notation.)
-use Rattle.std.specs.Prelude.{ℕ, ◌+◌, List, [], ◌∷◌, ◌++◌, flat_map, Option, Some, None, sum_by}
+use Rattle.std.specs.Prelude.{Bool, ℕ, ◌+◌, nat_lt, List, [], ◌∷◌, ◌++◌, length, flat_map, Option, Some, None, sum_by}
 use Rattle.std.specs.Option.{option_and_then}
 use Rattle.store_logic.specs.declared.assertion.Assertion.{Assertion, out-Assertion, roll-Assertion}
 use Rattle.store_logic.specs.declared.assertion.Assertion.TheOpen.{Assertion-F}
@@ -37,6 +37,10 @@ parts_of Part (Assertion-F.Ex ty a) = a ∷ []
 parts_of Part (Assertion-F.All ty a) = a ∷ []
 parts_of Part (Assertion-F.ExSet ty a) = a ∷ []
 parts_of Part (Assertion-F.AllSet ty a) = a ∷ []
+
+-- whether it has any
+abbrev pub has_parts : Assertion → Bool
+has_parts a = nat_lt 0 (length (parts_of Assertion (out-Assertion a)))
 
 abbrev pub postfix_of_node : Assertion-F (List Form) → List Form
 postfix_of_node node = flat_map (λ part. part) (parts_of (List Form) node) ++ without_parts (List Form) node ∷ []

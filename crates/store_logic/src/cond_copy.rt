@@ -1,6 +1,6 @@
 //! Copies of conditions.
 
-ghost use Rattle.std.specs.Prelude.{◌≡◌, ◌++◌, ◌∷◌, ◌<◌, length, Some, IfOk, OnOk, IsSome, map};
+ghost use Rattle.std.specs.Prelude.{◌≡◌, [], ◌++◌, ◌∷◌, ◌<◌, length, Some, IfOk, OnOk, IsSome, map};
 ghost use Rattle.store_logic.specs.declared.cond.Cond.{Cond, out-Cond};
 ghost use Rattle.store_logic.specs.PostfixConds.{form_of, parts_of, postfix_of, applied};
 
@@ -74,11 +74,6 @@ fn copy_form(alloc: Global, copies: &mut Stack<Cond>, form: &Cond) -> Result<Con
     ensures { IfOk result (λ copy. applied (form_of form.now) copies.old ≡ Some (copy ∷ copies.new)) }
 {
     match form {
-        Cond::True => Ok(Cond::True),
-        Cond::False => Ok(Cond::False),
-        Cond::Bool(path) => Ok(Cond::Bool(path.copy(alloc)?)),
-        Cond::Is(path, v) => Ok(Cond::Is(path.copy(alloc)?, *v)),
-        Cond::Same(one, other) => Ok(Cond::Same(one.copy(alloc)?, other.copy(alloc)?)),
         Cond::Not(_) => Ok(Cond::Not(take(alloc, copies)?)),
         Cond::And(_, _) => {
             let right = take(alloc, copies)?;
@@ -88,5 +83,23 @@ fn copy_form(alloc: Global, copies: &mut Stack<Cond>, form: &Cond) -> Result<Con
             let right = take(alloc, copies)?;
             Ok(Cond::Or(take(alloc, copies)?, right))
         }
+        Cond::True | Cond::False | Cond::Bool(_) | Cond::Is(_, _) | Cond::Same(_, _) => {
+            copy_leaf(alloc, form)
+        }
+    }
+}
+
+/// A copy of a condition that has no parts.
+fn copy_leaf(alloc: Global, leaf: &Cond) -> Result<Cond, AllocError>
+    requires { parts_of Cond (out-Cond leaf.now) ≡ [] }
+    ensures { IfOk result (λ copy. copy ≡ leaf.now) }
+{
+    match leaf {
+        Cond::True => Ok(Cond::True),
+        Cond::False => Ok(Cond::False),
+        Cond::Bool(path) => Ok(Cond::Bool(path.copy(alloc)?)),
+        Cond::Is(path, v) => Ok(Cond::Is(path.copy(alloc)?, *v)),
+        Cond::Same(one, other) => Ok(Cond::Same(one.copy(alloc)?, other.copy(alloc)?)),
+        Cond::Not(_) | Cond::And(_, _) | Cond::Or(_, _) => unreachable!(),
     }
 }

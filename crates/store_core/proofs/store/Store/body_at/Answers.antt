@@ -13,7 +13,8 @@ returns-then-self-eq0-clause-cell c =
     shown c.at.result
     ∙ ap (option_map cell_entry) (c.at.ensures ∙ ap (λ (l : List CellBody). slice_get l place)
     (c.as_slice-cells.ensures.value ∙ sym (live_of-all bodies (omega (arith, c.self.invariant.count, c.if-self-eq0.true)))))
-    ∙ sym (slice_get-cells (live_of bodies) (order_live bodies c.self.invariant.kept.rising) c.self.inside.vars c.self.inside.next c.args.self.now c.self.view_is place)
+    ∙ sym (slice_get-cells (live_of bodies) (order_live bodies c.self.invariant.kept.rising) c.self.inside.vars c.self.inside.next
+    c.args.self.now c.self.view_is place)
 
 pub returns-then-self-eq0-clause-live : goal.returns-then-self-eq0-clause-live
 returns-then-self-eq0-clause-live c =
@@ -28,7 +29,8 @@ returns-else-self-eq0-clause-cell c =
     let place = c.args.place in
     shown c.live_at.result
     ∙ ap (option_map cell_entry) (c.live_at.ensures ∙ ap (λ (l : List CellBody). slice_get (live_of l) place) c.as_slice-cells.ensures.value)
-    ∙ sym (slice_get-cells (live_of bodies) (order_live bodies c.self.invariant.kept.rising) c.self.inside.vars c.self.inside.next c.args.self.now c.self.view_is place)
+    ∙ sym (slice_get-cells (live_of bodies) (order_live bodies c.self.invariant.kept.rising) c.self.inside.vars c.self.inside.next
+    c.args.self.now c.self.view_is place)
 
 pub returns-else-self-eq0-clause-live : goal.returns-else-self-eq0-clause-live
 returns-else-self-eq0-clause-live c =

@@ -24,7 +24,8 @@ pub unreachable-requires : goal.unreachable-requires
 unreachable-requires c =
     let none : cell_of c.args.self.now c.args.c ≡ None = ap (λ (s : StoreMap). cell_of s c.args.c) (sym c.self.view_is) ∙
     subst (λ (l : List CellBody). get (map_of (live_of l)) c.args.c.0 ≡ None) c.as_slice.ensures.value c.in_default.ensures.missing in
-    absurd (subst (λ (o : Option CellEntry). IsSomeAnd (option_and_then (λ e. field_of e c.args.f) o) (λ old. class_of c.args.v ≡ class_of old)) none c.requires)
+    absurd (subst (λ (o : Option CellEntry). IsSomeAnd (option_and_then (λ e. field_of e c.args.f) o) (λ old. class_of c.args.v ≡ class_of old))
+    none c.requires)
 
 pub set-requires : goal.set-requires
 set-requires c =

@@ -1,7 +1,7 @@
 use Rattle.std.proofs.Common.{◌≡◌, List, [], ◌∷◌, ◌++◌, length, flat_map, refl, sym, ap, ◌∙◌, map, reverse, arith}
 use Rattle.store_logic.specs.Postfix.{form_of, postfix_of}
 use Rattle.store_logic.proofs.PostfixLemmas.{map-reverse}
-use Rattle.hoare_split.proofs.filling.in_postfix.Goals as goal
+use Rattle.store_logic.proofs.assertion.Assertion.in_postfix.Goals as goal
 
 no_length : {X : Type 0} (xs : List X) → length xs ≡ 0 → xs ≡ []
 no_length [] e = refl
