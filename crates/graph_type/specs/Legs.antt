@@ -8,6 +8,7 @@ use Rattle.store_core.specs.declared.kind.Route.TheFolds.{fold-Route}
 use Rattle.store_core.specs.Postfix.{Form, form_of, without_parts, form_count}
 use Rattle.ws2s_core.specs.declared.formula.Formula.{Formula}
 use Rattle.graph_view.specs.Routes.{Joining}
+use Rattle.graph_cells.specs.Given.{given}
 use Rattle.graph_type.specs.declared.legs.Leg.{Leg}
 
 -- a form of a route, the first track that it may bind, and the tracks that it joins
@@ -82,10 +83,6 @@ abbrev pub part_of : Leg → Part
 part_of leg = record { form = form_of leg.route.now; next = leg.next; from = leg.from; to = leg.to }
 
 -- ---- the formulas of parts
-
--- a walk whose formula is made
-abbrev pub given : Formula → Joining
-given f next a b = f
 
 -- the form with the last formulas as its parts, and the formulas before them; the last one comes first
 abbrev pub taken : Form → List Formula → Option (Route-F Joining × List Formula)

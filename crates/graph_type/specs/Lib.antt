@@ -1,4 +1,2 @@
-pub mod Saying
-pub mod Selecting
 pub mod Legs
 pub mod Valued

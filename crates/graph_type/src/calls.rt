@@ -9,13 +9,12 @@ ghost use Rattle.graph_view.specs.Sights.{sight_of};
 
 use crate::cuts::{fields_are_wrong, leaks};
 use crate::dangling::dangles;
-use crate::fields::is_true;
 use crate::forks::forks_in;
-use crate::live::{lives, lives_in};
 use crate::naming::{data_walk, names};
 use crate::shared::shares;
 use crate::valued::values_by;
 use crate::walks::walk;
+use graph_cells::{is_true, lives, lives_in};
 use graph_view::{CutCheck, View};
 use std::alloc::{AllocError, Global};
 use store_core::{FieldId, Route, TypeId, VariantId};

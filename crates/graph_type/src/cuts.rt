@@ -1,17 +1,16 @@
 //! Cells that no data variable reaches, and pointer fields that are wrong, as formulas.
 
-ghost use Rattle.std.specs.Prelude.{◌≡◌, ◌++◌, [], ◌∷◌, flat_map, IfOk, OnOk};
-ghost use Rattle.ws2s_core.specs.declared.formula.Formula.TheVariants.{Not};
+ghost use Rattle.std.specs.Prelude.{◌≡◌, ◌++◌, suc, flat_map, IfOk, OnOk};
+ghost use Rattle.ws2s_core.specs.declared.formula.Formula.TheVariants.{And, Not, Sub};
 ghost use Rattle.ws2s_forms.specs.Forms as forms;
 ghost use Rattle.graph_view.specs.Cuts as formulas;
+ghost use Rattle.graph_view.specs.Live as live;
 ghost use Rattle.graph_view.specs.Routes as routes;
 ghost use Rattle.graph_view.specs.Cuts.{has_value, wrong_parts};
 ghost use Rattle.graph_view.specs.Sights.{sight_of};
 
-use crate::live::{has, is_live};
 use crate::naming::{destination, edge, names};
-use crate::selecting::{Kinds, fields_of_kind};
-use crate::steps::is_left;
+use graph_cells::{Kinds, fields_of_kind, has, is_left, is_live};
 use graph_view::{Sym, View};
 use std::alloc::{AllocError, Global};
 use store_core::{FieldId, FieldKind, Route, TypeId};
@@ -36,6 +35,23 @@ fn push_values(
     Ok(())
 }
 
+/// No data field leads out of the set on track `x`.
+fn is_closed(
+    alloc: Global,
+    l: &Layout<'_>,
+    view: &View,
+    next: u32,
+    x: u32,
+) -> Result<Formula, AllocError>
+    ensures { IfOk result (λ formula. formula
+        ≡ Not (routes.is_left (routes.edge l.now.types (sight_of l.now.vars view.now)) next x)) }
+{
+    let other = later(next, 1)?;
+    let led = edge(alloc, l, view, later(next, 2)?, next, other)?;
+    let left = is_left(alloc, next, x, led)?;
+    Formula::not(alloc, left)
+}
+
 /// The set on track `x` has these values and all that data fields reach from it.
 ///
 /// # Errors
@@ -53,11 +69,24 @@ pub fn closes(
 {
     let mut parts = Vec::new(alloc);
     push_values(alloc, &mut parts, x, values)?;
-    let other = later(next, 1)?;
-    let led = edge(alloc, l, view, later(next, 2)?, next, other)?;
-    let left = is_left(alloc, next, x, led)?;
-    parts.push(Formula::not(alloc, left)?)?;
+    parts.push(is_closed(alloc, l, view, next, x)?)?;
     and_list(alloc, next, parts)
+}
+
+/// Some live cell, on track `cell`, isn't in the set on track `x`.
+fn some_outside(
+    alloc: Global,
+    l: &Layout<'_>,
+    view: &View,
+    cell: u32,
+    x: u32,
+) -> Result<Formula, AllocError>
+    ensures { IfOk result (λ formula. formula ≡ forms.ex1 cell (And
+        (live.is_live l.now.types (sight_of l.now.vars view.now) (suc cell) cell) (Not (Sub (forms.track cell) (forms.track x))))) }
+{
+    let live = is_live(alloc, l, view, later(cell, 1)?, cell)?;
+    let outside = Formula::not(alloc, Formula::Sub(Track(cell), Track(x)))?;
+    ex1(alloc, cell, Formula::and(alloc, live, outside)?)
 }
 
 /// Some live cell is outside a set that has these values and all that data fields reach from it.
@@ -72,9 +101,7 @@ pub(crate) fn leaks(
 {
     let cell = later(next, 1)?;
     let closed = closes(alloc, l, view, cell, values, next)?;
-    let live = is_live(alloc, l, view, later(next, 2)?, cell)?;
-    let outside = Formula::not(alloc, Formula::Sub(Track(cell), Track(next)))?;
-    let lost = ex1(alloc, cell, Formula::and(alloc, live, outside)?)?;
+    let lost = some_outside(alloc, l, view, cell, next)?;
     bound(alloc, next, closed, lost)
 }
 
@@ -100,6 +127,25 @@ fn is_misled(
     Formula::not(alloc, same)
 }
 
+/// The same of some cell, on track `next`.
+fn misleads(
+    alloc: Global,
+    l: &Layout<'_>,
+    view: &View,
+    next: u32,
+    f: FieldId,
+    target: TypeId,
+    along: &Route,
+    a: u32,
+) -> Result<Formula, AllocError>
+    ensures { IfOk result (λ formula. formula ≡ forms.ex1 next (Not (forms.iff
+        (routes.names l.now.types (sight_of l.now.vars view.now) (suc next) f a next)
+        (routes.destination l.now.types (sight_of l.now.vars view.now) (suc next) f target along.now a next)))) }
+{
+    let misled = is_misled(alloc, l, view, later(next, 1)?, f, target, along, a, next)?;
+    ex1(alloc, next, misled)
+}
+
 /// The pointer field of some cell names another cell than its destinations.
 fn is_wrong(
     alloc: Global,
@@ -114,11 +160,9 @@ fn is_wrong(
         ≡ formulas.is_wrong l.now.types (sight_of l.now.vars view.now) next f target along.now) }
 {
     let other = later(next, 1)?;
-    let inner = later(next, 2)?;
     let owned = has(alloc, l, view, other, f, next)?;
-    let misled = is_misled(alloc, l, view, inner, f, target, along, next, other)?;
-    let apart = ex1(alloc, other, misled)?;
-    ex1(alloc, next, Formula::and(alloc, owned, apart)?)
+    let misled = misleads(alloc, l, view, other, f, target, along, next)?;
+    ex1(alloc, next, Formula::and(alloc, owned, misled)?)
 }
 
 /// The same, if the field is a pointer field.

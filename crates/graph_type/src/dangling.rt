@@ -1,20 +1,42 @@
 //! Values and fields that name dead cells, as formulas.
 
-ghost use Rattle.std.specs.Prelude.{◌≡◌, ◌++◌, map, IfOk, OnOk};
+ghost use Rattle.std.specs.Prelude.{◌≡◌, ◌++◌, [], ◌∷◌, map, IfOk, OnOk};
+ghost use Rattle.ws2s_core.specs.declared.formula.Formula.TheVariants.{Not};
+ghost use Rattle.ws2s_forms.specs.Forms as forms;
 ghost use Rattle.graph_view.specs.Cuts as formulas;
 ghost use Rattle.graph_view.specs.Live as live;
+ghost use Rattle.graph_view.specs.Routes as routes;
 ghost use Rattle.graph_view.specs.Sights.{sight_of};
 
-use crate::live::{is_dead, is_live, lives_in};
 use crate::naming::names;
-use crate::selecting::{Kinds, fields_of_kind};
-use crate::syms::all_three;
+use graph_cells::{Kinds, all_three, fields_of_kind, is_dead, is_not_live, lives_in, some_pair};
 use graph_view::{Sym, View};
 use std::alloc::{AllocError, Global};
 use store_core::FieldId;
 use tree_encode::Layout;
 use ws2s_core::Formula;
-use ws2s_forms::{ex1, later, or_list};
+use ws2s_forms::{later, or_list};
+
+/// The field of the live cell on track `a` names the dead cell on track `b`.
+fn dangles_at(
+    alloc: Global,
+    l: &Layout<'_>,
+    view: &View,
+    next: u32,
+    f: FieldId,
+    a: u32,
+    b: u32,
+) -> Result<Formula, AllocError>
+    ensures { IfOk result (λ formula. formula ≡ forms.and_list next
+        (live.lives_in l.now.types (sight_of l.now.vars view.now) next f.ty a
+        ∷ routes.names l.now.types (sight_of l.now.vars view.now) next f a b
+        ∷ Not (live.is_live l.now.types (sight_of l.now.vars view.now) next b) ∷ [])) }
+{
+    let owned = lives_in(alloc, l, view, next, f.ty, a)?;
+    let named = names(alloc, l, view, next, f, a, b)?;
+    let dead = is_not_live(alloc, l, view, next, b)?;
+    all_three(alloc, next, owned, named, dead)
+}
 
 /// The field of some live cell names a dead cell.
 fn field_dangles(
@@ -27,12 +49,8 @@ fn field_dangles(
     ensures { IfOk result (λ formula. formula ≡ formulas.field_dangles l.now.types (sight_of l.now.vars view.now) next f) }
 {
     let other = later(next, 1)?;
-    let inner = later(next, 2)?;
-    let owned = lives_in(alloc, l, view, inner, f.ty, next)?;
-    let named = names(alloc, l, view, inner, f, next, other)?;
-    let live = is_live(alloc, l, view, inner, other)?;
-    let all = all_three(alloc, inner, owned, named, Formula::not(alloc, live)?)?;
-    ex1(alloc, next, ex1(alloc, other, all)?)
+    let named = dangles_at(alloc, l, view, later(next, 2)?, f, next, other)?;
+    some_pair(alloc, next, other, named)
 }
 
 /// One of the values is a dead cell.

@@ -8,7 +8,7 @@ ghost use Rattle.graph_view.specs.Cuts as formulas;
 ghost use Rattle.graph_view.specs.Sights.{var_slots, at_first};
 
 use crate::naming::first_destination;
-use crate::syms::all_three;
+use graph_cells::{all_three, some_pair};
 use std::alloc::{AllocError, Global};
 use store_core::{FieldId, FieldKind, Route, TypeId};
 use tree_encode::Layout;
@@ -51,9 +51,8 @@ fn forks(
 {
     let one = later(next, 1)?;
     let two = later(next, 2)?;
-    let inner = later(next, 3)?;
-    let parted = parts_at(alloc, l, inner, f, target, along, next, one, two)?;
-    ex1(alloc, next, ex1(alloc, one, ex1(alloc, two, parted)?)?)
+    let parted = parts_at(alloc, l, later(next, 3)?, f, target, along, next, one, two)?;
+    ex1(alloc, next, some_pair(alloc, one, two, parted)?)
 }
 
 /// The same; never, if the field is no pointer field.

@@ -8,16 +8,10 @@
 mod calls;
 mod cuts;
 mod dangling;
-mod fields;
 mod forks;
 mod legs;
-mod live;
 mod naming;
-mod selecting;
 mod shared;
-mod slots;
-mod steps;
-mod syms;
 mod valued;
 mod walks;
 
@@ -26,8 +20,8 @@ pub use calls::{
     walk_formula,
 };
 pub use cuts::closes;
-pub use fields::is_true;
-pub use live::{has, is_dead, is_live, lives, lives_in};
+pub use graph_cells::{
+    guard, has, is_dead, is_in, is_live, is_null, is_same, is_true, lives, lives_in, truth,
+};
 pub use naming::{data_walk, destination, edge, names, names_by_data};
-pub use syms::{guard, is_in, is_null, is_same, truth};
 pub use walks::walk;

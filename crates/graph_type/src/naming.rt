@@ -7,14 +7,11 @@ ghost use Rattle.graph_view.specs.Fields.{is_data};
 ghost use Rattle.graph_view.specs.Sights.{var_slots, at_first, sight_of};
 ghost use Rattle.graph_type.specs.Legs.{part_of, applied};
 
-use crate::fields::{Saying, after, data_names, first_view};
 use crate::legs::{Leg, in_postfix};
-use crate::live::{has, lives_in};
-use crate::selecting::{Kinds, fields_named, fields_of_kind};
-use crate::steps::{
-    join_live, rounds, stay_at_truth, stay_in_type, stay_in_variant, stay_where_none,
+use graph_cells::{
+    Kinds, Saying, after, all_three, data_names, fields_named, fields_of_kind, first_view, has,
+    join_live, lives_in, rounds, stay_at_truth, stay_in_type, stay_in_variant, stay_where_none,
 };
-use crate::syms::all_three;
 use graph_view::View;
 use std::alloc::{AllocError, Global};
 use store_core::{FieldId, FieldKind, Route, TypeId};

@@ -1,25 +1,39 @@
 //! Cells that are named twice, as formulas.
 
-ghost use Rattle.std.specs.Prelude.{◌≡◌, ◌++◌, flat_map, map, IfOk, OnOk};
+ghost use Rattle.std.specs.Prelude.{◌≡◌, ◌++◌, [], ◌∷◌, flat_map, map, IfOk, OnOk};
 ghost use Rattle.tree_formula.specs.WellEncoded.{types_in};
-ghost use Rattle.ws2s_core.specs.declared.formula.Formula.TheVariants.{And};
+ghost use Rattle.ws2s_core.specs.declared.formula.Formula.TheVariants.{And, Not};
 ghost use Rattle.ws2s_forms.specs.Forms as forms;
 ghost use Rattle.graph_view.specs.Cuts as formulas;
 ghost use Rattle.graph_view.specs.Live as live;
+ghost use Rattle.graph_view.specs.Routes as routes;
 ghost use Rattle.graph_view.specs.Cuts.{both_name, two_fields, pairs, field_pairs};
 ghost use Rattle.graph_view.specs.Syms as syms;
 ghost use Rattle.graph_view.specs.Sights.{sight_of};
 
-use crate::live::is_live;
 use crate::naming::{edge, names_by_data};
-use crate::selecting::{Kinds, push_of_kind};
-use crate::syms::{all_three, is_in};
+use graph_cells::{Kinds, all_three, is_in, is_live, push_of_kind, some_pair};
 use graph_view::{Sym, View};
 use std::alloc::{AllocError, Global};
 use store_core::{FieldId, TypeId};
 use tree_encode::Layout;
 use ws2s_core::{Formula, Track};
 use ws2s_forms::{equal, ex1, later, or_list};
+
+/// Both values are the cell on track `c`.
+fn both_name(
+    alloc: Global,
+    next: u32,
+    c: u32,
+    value: Sym,
+    other: Sym,
+) -> Result<Formula, AllocError>
+    ensures { IfOk result (λ formula. formula ≡ formulas.both_name next c value other) }
+{
+    let one = is_in(alloc, next, c, value)?;
+    let two = is_in(alloc, next, c, other)?;
+    Formula::and(alloc, one, two)
+}
 
 /// A value is the cell on track `c`, and so is each of the others.
 fn push_both(
@@ -33,9 +47,7 @@ fn push_both(
     ensures { OnOk result (parts.new.items ≡ parts.old.items ++ map (both_name next c value) others.now) }
 {
     for other in others {
-        let one = is_in(alloc, next, c, value)?;
-        let two = is_in(alloc, next, c, *other)?;
-        parts.push(Formula::and(alloc, one, two)?)?;
+        parts.push(both_name(alloc, next, c, value, *other)?)?;
     }
     Ok(())
 }
@@ -81,6 +93,34 @@ fn is_below(
     ex1(alloc, next, above)
 }
 
+/// The cells on tracks `a` and `b` are not the same.
+fn are_apart(alloc: Global, a: u32, b: u32) -> Result<Formula, AllocError>
+    ensures { IfOk result (λ formula. formula ≡ Not (forms.equal a b)) }
+{
+    let same = equal(alloc, Track(a), Track(b))?;
+    Formula::not(alloc, same)
+}
+
+/// Data fields of the cells on tracks `a` and `b`, which are two, name the cell on track `c`.
+fn both_lead(
+    alloc: Global,
+    l: &Layout<'_>,
+    view: &View,
+    next: u32,
+    a: u32,
+    b: u32,
+    c: u32,
+) -> Result<Formula, AllocError>
+    ensures { IfOk result (λ formula. formula ≡ forms.and_list next (Not (forms.equal a b)
+        ∷ routes.edge l.now.types (sight_of l.now.vars view.now) next a c
+        ∷ routes.edge l.now.types (sight_of l.now.vars view.now) next b c ∷ [])) }
+{
+    let apart = are_apart(alloc, a, b)?;
+    let one = edge(alloc, l, view, next, a, c)?;
+    let two = edge(alloc, l, view, next, b, c)?;
+    all_three(alloc, next, apart, one, two)
+}
+
 /// Data fields of two cells name the cell on track `c`.
 fn two_above(
     alloc: Global,
@@ -92,13 +132,30 @@ fn two_above(
     ensures { IfOk result (λ formula. formula ≡ formulas.two_above l.now.types (sight_of l.now.vars view.now) next c) }
 {
     let other = later(next, 1)?;
-    let inner = later(next, 2)?;
-    let same = equal(alloc, Track(next), Track(other))?;
-    let apart = Formula::not(alloc, same)?;
-    let one = edge(alloc, l, view, inner, next, c)?;
-    let two = edge(alloc, l, view, inner, other, c)?;
-    let all = all_three(alloc, inner, apart, one, two)?;
-    ex1(alloc, next, ex1(alloc, other, all)?)
+    let led = both_lead(alloc, l, view, later(next, 2)?, next, other, c)?;
+    some_pair(alloc, next, other, led)
+}
+
+/// Two data fields of the cell on track `a` name that on track `c`.
+fn fields_lead(
+    alloc: Global,
+    l: &Layout<'_>,
+    view: &View,
+    next: u32,
+    a: u32,
+    c: u32,
+    f: FieldId,
+    g: FieldId,
+) -> Result<Formula, AllocError>
+    ensures { IfOk result (λ formula. formula ≡ forms.and_list next
+        (live.is_live l.now.types (sight_of l.now.vars view.now) next a
+        ∷ routes.names_by_data l.now.types (sight_of l.now.vars view.now) next f a c
+        ∷ routes.names_by_data l.now.types (sight_of l.now.vars view.now) next g a c ∷ [])) }
+{
+    let live = is_live(alloc, l, view, next, a)?;
+    let one = names_by_data(alloc, l, view, next, f, a, c)?;
+    let two = names_by_data(alloc, l, view, next, g, a, c)?;
+    all_three(alloc, next, live, one, two)
 }
 
 /// Two data fields of one cell name the cell on track `c`.
@@ -113,11 +170,8 @@ fn two_fields(
 ) -> Result<Formula, AllocError>
     ensures { IfOk result (λ formula. formula ≡ formulas.two_fields l.now.types (sight_of l.now.vars view.now) next c f g) }
 {
-    let inner = later(next, 1)?;
-    let live = is_live(alloc, l, view, inner, next)?;
-    let one = names_by_data(alloc, l, view, inner, f, next, c)?;
-    let two = names_by_data(alloc, l, view, inner, g, next, c)?;
-    ex1(alloc, next, all_three(alloc, inner, live, one, two)?)
+    let led = fields_lead(alloc, l, view, later(next, 1)?, next, c, f, g)?;
+    ex1(alloc, next, led)
 }
 
 /// The same of a field and each of the others.
@@ -196,6 +250,59 @@ fn push_in_types(
     Ok(())
 }
 
+/// One of the values is the cell on track `c`, and some data field names it too.
+fn is_value_and_below(
+    alloc: Global,
+    l: &Layout<'_>,
+    view: &View,
+    next: u32,
+    values: &[Sym],
+    c: u32,
+) -> Result<Formula, AllocError>
+    ensures { IfOk result (λ formula. formula ≡ And (forms.or_list next (map (syms.is_in next c) values.now))
+        (formulas.is_below l.now.types (sight_of l.now.vars view.now) next c)) }
+{
+    let named = or_list(alloc, next, each_is(alloc, next, c, values)?)?;
+    let below = is_below(alloc, l, view, next, c)?;
+    Formula::and(alloc, named, below)
+}
+
+/// Two of the values are the cell on track `c`, or one of them, which some data field names too.
+fn push_by_values(
+    alloc: Global,
+    parts: &mut Vec<Formula>,
+    l: &Layout<'_>,
+    view: &View,
+    next: u32,
+    values: &[Sym],
+    c: u32,
+) -> Result<(), AllocError>
+    ensures { OnOk result (parts.new.items ≡ parts.old.items ++ pairs (both_name next c) values.now
+        ++ And (forms.or_list next (map (syms.is_in next c) values.now))
+        (formulas.is_below l.now.types (sight_of l.now.vars view.now) next c) ∷ []) }
+{
+    push_value_pairs(alloc, parts, next, c, values)?;
+    parts.push(is_value_and_below(alloc, l, view, next, values, c)?)?;
+    Ok(())
+}
+
+/// Data fields of two cells name the cell on track `c`, or two data fields of one.
+fn push_by_cells(
+    alloc: Global,
+    parts: &mut Vec<Formula>,
+    l: &Layout<'_>,
+    view: &View,
+    next: u32,
+    c: u32,
+) -> Result<(), AllocError>
+    ensures { OnOk result (parts.new.items ≡ parts.old.items
+        ++ formulas.two_above l.now.types (sight_of l.now.vars view.now) next c
+        ∷ flat_map (field_pairs l.now.types (sight_of l.now.vars view.now) next c) (types_in l.now.types)) }
+{
+    parts.push(two_above(alloc, l, view, next, c)?)?;
+    push_in_types(alloc, parts, l, view, next, c)
+}
+
 /// The ways in which the cell on track `c` is named twice.
 fn named_twice(
     alloc: Global,
@@ -209,12 +316,8 @@ fn named_twice(
         ≡ formulas.named_twice l.now.types (sight_of l.now.vars view.now) values.now next c) }
 {
     let mut parts = Vec::new(alloc);
-    push_value_pairs(alloc, &mut parts, next, c, values)?;
-    let named = or_list(alloc, next, each_is(alloc, next, c, values)?)?;
-    let below = is_below(alloc, l, view, next, c)?;
-    parts.push(Formula::and(alloc, named, below)?)?;
-    parts.push(two_above(alloc, l, view, next, c)?)?;
-    push_in_types(alloc, &mut parts, l, view, next, c)?;
+    push_by_values(alloc, &mut parts, l, view, next, values, c)?;
+    push_by_cells(alloc, &mut parts, l, view, next, c)?;
     Ok(parts)
 }
 

@@ -9,8 +9,9 @@ ghost use Rattle.graph_type.specs.Legs.{part_of, applied};
 
 use crate::legs::{Leg, in_postfix};
 use crate::naming::{edge, names, stay_at_leaf, stay_at_root};
-use crate::selecting::{Kinds, fields_named};
-use crate::steps::{join_live, rounds, stay_at_truth, stay_in_type, stay_in_variant};
+use graph_cells::{
+    Kinds, fields_named, join_live, rounds, stay_at_truth, stay_in_type, stay_in_variant,
+};
 use graph_view::View;
 use std::alloc::{AllocError, Global};
 use store_core::{FieldId, Route};

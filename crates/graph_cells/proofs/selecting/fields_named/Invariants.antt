@@ -1,0 +1,8 @@
+use Rattle.std.proofs.Common.{◌≡◌, flat_map}
+use Rattle.tree_formula.specs.WellEncoded.{named, type_id}
+use Rattle.graph_view.specs.Fields.{fields_in_where, is_named}
+use Rattle.graph_cells.specs.Selecting.{is_of}
+use Rattle.graph_cells.proofs.selecting.fields_named.Given as goal
+
+abbrev pub invariant-loop-index : goal.invariant-loop-index
+invariant-loop-index l = l.fields.items ≡ flat_map (fields_in_where l.types (is_named l.name (is_of l.fn.kinds))) (named type_id l.index)
