@@ -137,18 +137,24 @@ pub(crate) fn fill_set(puts: &[Put], name: Base) -> Base
     }
 }
 
+/// An argument of a predicate.
+fn fill_arg(alloc: Global, puts: &[Put], arg: &Arg) -> Result<Arg, AllocError>
+    ensures { IfOk result (λ filled. filled ≡ filled_arg (put_for puts.now) 0 arg.now) }
+{
+    match arg {
+        Arg::Cell(term) => Ok(Arg::Cell(fill_term(alloc, puts, term)?)),
+        Arg::Set(name) => Ok(Arg::Set(fill_set(puts, *name))),
+        Arg::Truth(term) => Ok(Arg::Truth(fill_term(alloc, puts, term)?)),
+    }
+}
+
 /// The arguments of a predicate.
 pub(crate) fn fill_args(alloc: Global, puts: &[Put], args: &[Arg]) -> Result<ArgList, AllocError>
     ensures { IfOk result (λ filled. filled ≡ map (filled_arg (put_for puts.now) 0) args.now) }
 {
     let mut filled = ArgList::new(alloc);
     for arg in args {
-        let next = match arg {
-            Arg::Cell(term) => Arg::Cell(fill_term(alloc, puts, term)?),
-            Arg::Set(name) => Arg::Set(fill_set(puts, *name)),
-            Arg::Truth(term) => Arg::Truth(fill_term(alloc, puts, term)?),
-        };
-        filled.push(next)?;
+        filled.push(fill_arg(alloc, puts, arg)?)?;
     }
     Ok(filled)
 }
