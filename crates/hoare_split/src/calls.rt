@@ -6,8 +6,7 @@ ghost use Rattle.hoare_split.specs.Picking.{class_at, is_data};
 ghost use Rattle.hoare_split.specs.Calls as calls;
 
 use crate::caller::{Caller, class_at};
-use crate::filling::fill;
-use crate::putting::{PutList, pair_actuals, pair_results};
+use hoare_fill::{PutList, fill, pair_actuals, pair_results};
 use pale_calls::{Actual, VarClass};
 use pale_types::CallParts;
 use std::alloc::{AllocError, Global};

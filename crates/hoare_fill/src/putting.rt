@@ -3,7 +3,7 @@
 ghost use Rattle.std.specs.Prelude.{◌≡◌, ◌++◌, map, IfOk, OnOk};
 ghost use Rattle.store_logic.specs.Filling.{filled_term, filled_truth, filled_set, filled_arg, constant};
 ghost use Rattle.pale_calls.specs.declared.actual.Actual.TheVariants as actual;
-ghost use Rattle.hoare_split.specs.Putting.{beside, actual_for, put_for, filling};
+ghost use Rattle.hoare_fill.specs.Putting.{beside, actual_for, put_for, filling};
 
 use pale_calls::Actual;
 use plain_data::Items;
@@ -18,10 +18,11 @@ pub struct Put {
     pub actual: Actual,
 }
 
-pub(crate) type PutList = Items<Put>;
+/// Variables with what is handed over for them, in order.
+pub type PutList = Items<Put>;
 
 /// Puts each variable with what is handed over for it at the end of the list.
-pub(crate) fn pair_actuals(
+pub fn pair_actuals(
     puts: &mut PutList,
     vars: &[VarId],
     actuals: &[Actual],
@@ -38,11 +39,7 @@ pub(crate) fn pair_actuals(
 }
 
 /// The same of variables alone.
-pub(crate) fn pair_results(
-    puts: &mut PutList,
-    vars: &[VarId],
-    results: &[VarId],
-) -> Result<(), AllocError>
+pub fn pair_results(puts: &mut PutList, vars: &[VarId], results: &[VarId]) -> Result<(), AllocError>
     ensures { OnOk result (puts.new ≡ puts.old ++ beside vars.now (map (λ v. actual.Var v) results.now)) }
 {
     for (var, result) in vars.iter().zip(results) {
