@@ -56,12 +56,12 @@ split_stmt-returns-in_ok-start-in-Split t c =
     let rest = flow_of caller c.args.rest in
     let place = c.in-Split.place in
     let own : Start → Started = λ start. record { place = place; start = start; flow = rest } in
-    on_ok_then c.push_triple-in-Split.result
-    (λ added. added-one (triple_of caller.number) c.args.triples.now c.push_triple-in-Split.new.triples
+    on_ok_then c.push_triple.result
+    (λ added. added-one (triple_of caller.number) c.args.triples.now c.push_triple.new.triples
     (triple_of caller.number (own c.in_ok-start-in-Split.start)) (own (plain_start c.in-Split.assertion)) _ added
     (ap (λ start. triple_of caller.number (own start)) c.in_ok-start-in-Split.ensures)
     (starts-Split (procs_of caller) (vars_of caller) rest c.args.stmt.now place c.in-Split.assertion c.in-Split.is))
-    c.push_triple-in-Split.ensures
+    c.push_triple.ensures
 
 pub split_stmt-returns-in_ok-start-in-Call : goal.split_stmt-returns-in_ok-start-in-Call
 split_stmt-returns-in_ok-start-in-Call t c =
