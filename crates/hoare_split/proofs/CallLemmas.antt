@@ -9,8 +9,8 @@ use Rattle.pale_calls.specs.declared.actual.Actual.TheVariants as actual
 use Rattle.pale_types.specs.declared.typed.CallParts.{CallParts}
 use Rattle.pale_types.specs.declared.typed.ProcEntry.{ProcEntry}
 use Rattle.pale_types.specs.declared.typed.TypedProc.{TypedProc}
-use Rattle.hoare_split.specs.declared.putting.Put.{Put}
-use Rattle.hoare_split.specs.Putting.{beside, with_puts}
+use Rattle.hoare_fill.specs.declared.putting.Put.{Put}
+use Rattle.hoare_fill.specs.Putting.{beside, with_puts}
 use Rattle.hoare_split.specs.Calls.{pre_for, post_for, pre_of, post_of}
 
 of_callee : (f : TypedProc → Assertion) (o : Option ProcEntry) (callee : TypedProc) → Some callee ≡ option_map (λ e. e.proc) o →

@@ -26,10 +26,10 @@ use Rattle.pale_calls.specs.Classes.{class_of, holds_cell, holds_truth, is_logic
 use Rattle.pale_types.specs.declared.typed.CallParts.{CallParts}
 use Rattle.pale_types.specs.declared.typed.ProcEntry.{ProcEntry}
 use Rattle.pale_types.specs.Fitting.{IsProgramVariable, StatedFits, FillingFits, IsLike, ActualFits, CallFits, ProcFits}
-use Rattle.hoare_split.specs.declared.putting.Put.{Put}
+use Rattle.hoare_fill.specs.declared.putting.Put.{Put}
 use Rattle.hoare_split.specs.Picking.{is_listed, is_awaited}
 use Rattle.hoare_split.specs.Settings.{settings}
-use Rattle.hoare_split.specs.Putting.{beside, actual_for, filling_of, put_for, with_puts}
+use Rattle.hoare_fill.specs.Putting.{beside, actual_for, filling_of, put_for, with_puts}
 use Rattle.hoare_split.specs.Calls.{pre_for, post_for, pre_of, post_of, variable_in}
 use Rattle.hoare_split.specs.Cuts.{at_assertion, at_call, at_exit}
 use Rattle.hoare_split.specs.Starts.{plain_start, entry_start, call_start}

@@ -2,13 +2,11 @@ pub mod StatementLemmas
 pub mod PlainLemmas
 pub mod CodeLemmas
 pub mod FlowLemmas
-pub mod FormLemmas
 pub mod CountsCodeLemmas
 pub mod MeasuresFlowLemmas
 pub mod MeasuresStatementLemmas
 pub mod SplittingLemmas
 pub mod PickingLemmas
-pub mod PuttingLemmas
 pub mod CallLemmas
 pub mod ReachLemmas
 pub mod WeightLemmas

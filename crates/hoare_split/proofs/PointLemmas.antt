@@ -54,13 +54,6 @@ pub code-behind_none : (points : List Point) (code : Code) (items : List Item) (
 code-behind_none points code items slice block flow none lent is =
     is ∙ ap (λ before. code_in points (after_items before (flow slice))) none ∙ ap (λ b. code_in points (flow b)) lent
 
--- that of a statement
-pub triple-start : (number : ℕ) (t : Triple) (place : Pos) (start start' : Start) (flow : Flow) →
-    ((p : Pos) → p.line ≡ place.line → t ≡ triple_of number (record { place = p; start = start; flow = flow })) → start ≡ start' →
-    t ≡ triple_of number (record { place = place; start = start'; flow = flow })
-triple-start number t place start start' flow is same =
-    is place refl ∙ ap (λ (x : Start). triple_of number (record { place = place; start = x; flow = flow })) same
-
 -- ---- which triples start in an `if`
 
 choice-starts : (line : ℕ) (c : Cond) (first other : Passage) → WhenPlain first → WhenPlain other → (rest : Flow) →

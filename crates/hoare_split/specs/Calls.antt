@@ -13,7 +13,7 @@ use Rattle.pale_types.specs.declared.typed.CallParts.{CallParts}
 use Rattle.pale_types.specs.declared.typed.ProcEntry.{ProcEntry}
 use Rattle.pale_types.specs.declared.typed.TypedProc.{TypedProc}
 use Rattle.hoare_split.specs.Picking.{class_at, is_data}
-use Rattle.hoare_split.specs.Putting.{beside, with_puts}
+use Rattle.hoare_fill.specs.Putting.{beside, with_puts}
 
 -- ---- the parts
 

@@ -1,7 +1,5 @@
 pub mod Picking
 pub mod Settings
-pub mod Putting
-pub mod Forms
 pub mod Calls
 pub mod Flows
 pub mod Cuts

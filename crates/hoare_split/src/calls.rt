@@ -1,12 +1,12 @@
 //! What a call hands over and gets back.
 
-ghost use Rattle.std.specs.Prelude.{◌≡◌, IfOk};
+ghost use Rattle.std.specs.Prelude.{◌≡◌, [], ◌∷◌, ◌++◌, IfOk, OnOk};
+ghost use Rattle.store_logic.specs.declared.region.Region.TheVariants as region;
 ghost use Rattle.hoare_split.specs.Picking.{class_at, is_data};
 ghost use Rattle.hoare_split.specs.Calls as calls;
 
 use crate::caller::{Caller, class_at};
-use crate::filling::fill;
-use crate::putting::{PutList, pair_actuals, pair_results};
+use hoare_fill::{PutList, fill, pair_actuals, pair_results};
 use pale_calls::{Actual, VarClass};
 use pale_types::CallParts;
 use std::alloc::{AllocError, Global};
@@ -112,13 +112,37 @@ pub(crate) fn on_part_and_rest(
     ensures { IfOk result (λ claims. claims ≡ calls.on_part_and_rest part.now inside outside.now) }
 {
     let mut claims = ClaimList::new(alloc);
+    push_on_part(alloc, part, inside, &mut claims)?;
+    push_on_rest(alloc, part, outside, &mut claims)?;
+    Ok(claims)
+}
+
+/// Puts an assertion on the part that these variables reach at the end of the claims.
+fn push_on_part(
+    alloc: Global,
+    part: &VarList,
+    inside: Assertion,
+    claims: &mut ClaimList,
+) -> Result<(), AllocError>
+    ensures { OnOk result (claims.new ≡ claims.old ++ record { region = region.Part part.now; assertion = inside } ∷ []) }
+{
     claims.push(Claim {
         region: Region::Part(VarList::from_slice(alloc, part.as_slice())?),
         assertion: inside,
-    })?;
+    })
+}
+
+/// The same on the rest.
+fn push_on_rest(
+    alloc: Global,
+    part: &VarList,
+    outside: &Assertion,
+    claims: &mut ClaimList,
+) -> Result<(), AllocError>
+    ensures { OnOk result (claims.new ≡ claims.old ++ record { region = region.Rest part.now; assertion = outside.now } ∷ []) }
+{
     claims.push(Claim {
         region: Region::Rest(VarList::from_slice(alloc, part.as_slice())?),
         assertion: outside.copy(alloc)?,
-    })?;
-    Ok(claims)
+    })
 }

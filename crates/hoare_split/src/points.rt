@@ -1,7 +1,6 @@
 //! The triples of a procedure, in order of its cut points in the text.
 
-ghost use Rattle.std.specs.Prelude.{◌≡◌, ◌++◌, map, IfOk, OnOk};
-ghost use Rattle.pale_text.specs.declared.place.Pos.{Pos};
+ghost use Rattle.std.specs.Prelude.{◌≡◌, [], ◌∷◌, ◌++◌, map, IfOk, OnOk};
 ghost use Rattle.hoare_split.specs.Cuts.{at_assertion};
 ghost use Rattle.hoare_split.specs.Flows.{ends, branches};
 ghost use Rattle.hoare_split.specs.Starts as starts;
@@ -27,22 +26,38 @@ pub type TripleList = Items<Triple>;
 fn triple_of(
     alloc: Global,
     caller: &Caller<'_>,
-    line: u32,
+    place: Pos,
     start: Start,
     rest: Rest<'_>,
 ) -> Result<Triple, AllocError>
-    ensures { IfOk result (λ triple. (place : Pos) → place.line ≡ line →
-        triple ≡ triple_of caller.now.number (record { place = place; start = start; flow = flow_of caller.now rest.entry })) }
+    ensures { IfOk result (λ triple. triple
+        ≡ triple_of caller.now.number (record { place = place; start = start; flow = flow_of caller.now rest.entry })) }
 {
     let mut reached = Reached::new(alloc);
     let code = code_of(alloc, caller, &mut reached, rest)?;
     Ok(Triple {
         proc: caller.number,
-        line,
+        line: place.line,
         start,
         code,
         cuts: reached.into_cuts(),
     })
+}
+
+/// Puts the triple of a cut point whose code is that of what follows at the end of the list.
+fn push_triple(
+    alloc: Global,
+    caller: &Caller<'_>,
+    place: Pos,
+    start: Start,
+    rest: Rest<'_>,
+    triples: &mut TripleList,
+) -> Result<(), AllocError>
+    ensures { OnOk result (triples.new ≡ triples.old
+        ++ triple_of caller.now.number (record { place = place; start = start; flow = flow_of caller.now rest.entry }) ∷ []) }
+{
+    let own = triple_of(alloc, caller, place, start, rest)?;
+    triples.push(own)
 }
 
 /// The triple of a loop: a branch into its body, which arrives at the loop again, and what follows it.
@@ -112,11 +127,11 @@ fn split_stmt<'a>(
         }
         Stmt::Split(place, assertion) => {
             let start = plain_start(alloc, assertion)?;
-            triples.push(triple_of(alloc, caller, place.line, start, rest)?)
+            push_triple(alloc, caller, *place, start, rest, triples)
         }
         Stmt::Call(place, call) => {
             let start = call_start(alloc, caller, call)?;
-            triples.push(triple_of(alloc, caller, place.line, start, rest)?)
+            push_triple(alloc, caller, *place, start, rest, triples)
         }
     }
 }
@@ -154,6 +169,6 @@ pub(crate) fn split_procedure(
     let body = caller.proc.body.as_slice();
     let start = entry_start(alloc, caller)?;
     let whole = Rest::Then(body, &Rest::Exit);
-    triples.push(triple_of(alloc, caller, caller.proc.place.line, start, whole)?)?;
+    push_triple(alloc, caller, caller.proc.place, start, whole, triples)?;
     split_block(alloc, caller, body, &Rest::Exit, triples)
 }

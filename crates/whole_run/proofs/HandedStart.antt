@@ -43,9 +43,9 @@ use Rattle.pale_calls.specs.Classes.{class_of, holds_cell, holds_truth, is_logic
 use Rattle.pale_types.specs.declared.typed.CallParts.{CallParts}
 use Rattle.pale_types.specs.declared.typed.ProcEntry.{ProcEntry}
 use Rattle.pale_types.specs.Fitting.{kind_at, IsProgramVariable, ActualFits, CallFits, ProcFits}
-use Rattle.hoare_split.specs.declared.putting.Put.{Put}
+use Rattle.hoare_fill.specs.declared.putting.Put.{Put}
 use Rattle.hoare_split.specs.Picking.{is_listed, those, is_fresh}
-use Rattle.hoare_split.specs.Putting.{beside, actual_for}
+use Rattle.hoare_fill.specs.Putting.{beside, actual_for}
 use Rattle.hoare_split.specs.Calls.{handed_by, pre_for, pre_of, on_part_and_rest, on_all}
 use Rattle.hoare_split.specs.Cuts.{call_cut}
 use Rattle.hoare_split.specs.Starts.{entry_start}

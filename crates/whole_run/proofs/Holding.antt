@@ -47,8 +47,8 @@ use Rattle.store_exec.specs.Steps.{variable}
 use Rattle.pale_calls.specs.declared.actual.Actual.{Actual}
 use Rattle.pale_calls.specs.declared.actual.Actual.TheVariants as actual
 use Rattle.pale_types.specs.Fitting.{NameMayBe, StatedFits}
-use Rattle.hoare_split.specs.declared.putting.Put.{Put}
-use Rattle.hoare_split.specs.Putting.{actual_for, filling_of, put_for, with_puts}
+use Rattle.hoare_fill.specs.declared.putting.Put.{Put}
+use Rattle.hoare_fill.specs.Putting.{actual_for, filling_of, put_for, with_puts}
 
 -- ---- values that no assertion tells apart
 

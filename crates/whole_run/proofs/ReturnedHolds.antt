@@ -44,7 +44,7 @@ use Rattle.pale_types.specs.declared.typed.ProcEntry.{ProcEntry}
 use Rattle.pale_types.specs.Fitting.{kind_at, IsOfClass, IsLogicVariable, IsProgramVariable, IsLike, ActualFits, IsUntouched, CallFits, ProcFits}
 use Rattle.pale_types.specs.Fitting.{cell_in, cells_in}
 use Rattle.hoare_split.specs.Picking.{class_at, is_pointer, is_listed, is_argument, is_spent, those, is_left, is_awaited}
-use Rattle.hoare_split.specs.Putting.{beside, actual_for}
+use Rattle.hoare_fill.specs.Putting.{beside, actual_for}
 use Rattle.hoare_split.specs.Calls.{handed_by, returned_by, post_for, post_of, on_all, on_part_and_rest, pre_of}
 use Rattle.hoare_split.specs.Cuts.{call_cut, plain_cut}
 use Rattle.hoare_split.specs.Starts.{call_start}

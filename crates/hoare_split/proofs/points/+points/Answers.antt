@@ -1,9 +1,12 @@
+use Rattle.std.proofs.Common.{ap}
+use Rattle.store_exec.specs.declared.triple.Start.{Start}
+use Rattle.hoare_split.specs.Passages.{Started}
 use Rattle.hoare_split.specs.Cuts.{at_assertion}
 use Rattle.hoare_split.specs.Flows.{ends}
 use Rattle.hoare_split.specs.Starts.{plain_start, call_start}
 use Rattle.hoare_split.specs.Following.{procs_of, vars_of, block_in, flow_of}
 use Rattle.hoare_split.specs.Triples.{triple_of}
-use Rattle.hoare_split.proofs.PointLemmas.{starts-plain, starts-If, starts-While, starts-Split, starts-Call, loop_start, triple-start}
+use Rattle.hoare_split.proofs.PointLemmas.{starts-plain, starts-If, starts-While, starts-Split, starts-Call, loop_start}
 use Rattle.hoare_split.proofs.PointLemmas.{added-more, added-one, added-none, added-first, on_ok_then, split-whole, split-next}
 use Rattle.hoare_split.proofs.points.+points.Goals as goal
 
@@ -47,32 +50,31 @@ split_stmt-returns-in_ok-push-in-While t c =
     c.as_slice-in-While.ensures))
     c.split_block-in-While.ensures
 
-pub split_stmt-returns-in_ok-triple_of-in-Split : goal.split_stmt-returns-in_ok-triple_of-in-Split
-split_stmt-returns-in_ok-triple_of-in-Split t c =
+pub split_stmt-returns-in_ok-start-in-Split : goal.split_stmt-returns-in_ok-start-in-Split
+split_stmt-returns-in_ok-start-in-Split t c =
     let caller = c.args.caller.now in
     let rest = flow_of caller c.args.rest in
     let place = c.in-Split.place in
-    on_ok_then c.push-in-Split.result
-    (λ added. added-one (triple_of caller.number) c.args.triples.now c.push-in-Split.new.self c.in_ok-triple_of-in-Split.field-0
-    (record { place = place; start = plain_start c.in-Split.assertion; flow = rest }) _ added
-    (triple-start caller.number c.in_ok-triple_of-in-Split.field-0 place c.in_ok-start-in-Split.start (plain_start c.in-Split.assertion) rest
-    c.in_ok-triple_of-in-Split.ensures c.in_ok-start-in-Split.ensures)
+    let own : Start → Started = λ start. record { place = place; start = start; flow = rest } in
+    on_ok_then c.push_triple.result
+    (λ added. added-one (triple_of caller.number) c.args.triples.now c.push_triple.new.triples
+    (triple_of caller.number (own c.in_ok-start-in-Split.start)) (own (plain_start c.in-Split.assertion)) _ added
+    (ap (λ start. triple_of caller.number (own start)) c.in_ok-start-in-Split.ensures)
     (starts-Split (procs_of caller) (vars_of caller) rest c.args.stmt.now place c.in-Split.assertion c.in-Split.is))
-    c.push-in-Split.ensures.ok
+    c.push_triple.ensures
 
-pub split_stmt-returns-in_ok-triple_of-in-Call : goal.split_stmt-returns-in_ok-triple_of-in-Call
-split_stmt-returns-in_ok-triple_of-in-Call t c =
+pub split_stmt-returns-in_ok-start-in-Call : goal.split_stmt-returns-in_ok-start-in-Call
+split_stmt-returns-in_ok-start-in-Call t c =
     let caller = c.args.caller.now in
     let rest = flow_of caller c.args.rest in
     let place = c.in-Call.place in
-    let start = call_start (procs_of caller) (vars_of caller) c.in-Call.call in
-    on_ok_then c.push-in-Call.result
-    (λ added. added-one (triple_of caller.number) c.args.triples.now c.push-in-Call.new.self c.in_ok-triple_of-in-Call.field-0
-    (record { place = place; start = start; flow = rest }) _ added
-    (triple-start caller.number c.in_ok-triple_of-in-Call.field-0 place c.in_ok-start-in-Call.start start rest
-    c.in_ok-triple_of-in-Call.ensures c.in_ok-start-in-Call.ensures)
+    let own : Start → Started = λ start. record { place = place; start = start; flow = rest } in
+    on_ok_then c.push_triple-in-Call.result
+    (λ added. added-one (triple_of caller.number) c.args.triples.now c.push_triple-in-Call.new.triples
+    (triple_of caller.number (own c.in_ok-start-in-Call.start)) (own (call_start (procs_of caller) (vars_of caller) c.in-Call.call)) _ added
+    (ap (λ start. triple_of caller.number (own start)) c.in_ok-start-in-Call.ensures)
     (starts-Call (procs_of caller) (vars_of caller) rest c.args.stmt.now place c.in-Call.call c.in-Call.is))
-    c.push-in-Call.ensures.ok
+    c.push_triple-in-Call.ensures
 
 pub split_block-loop-stmt-init : goal.split_block-loop-stmt-init
 split_block-loop-stmt-init t c =

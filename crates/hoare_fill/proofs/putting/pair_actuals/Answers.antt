@@ -1,8 +1,8 @@
 use Rattle.std.proofs.Common.{◌≡◌, ◌∙◌, ◌++◌, List, [], ap, sym, inl, inr, append-nil}
-use Rattle.hoare_split.specs.declared.putting.Put.{Put}
-use Rattle.hoare_split.specs.Putting.{beside}
-use Rattle.hoare_split.proofs.PuttingLemmas.{beside-no_variable, beside-no_actual}
-use Rattle.hoare_split.proofs.putting.pair_actuals.Goals as goal
+use Rattle.hoare_fill.specs.declared.putting.Put.{Put}
+use Rattle.hoare_fill.specs.Putting.{beside}
+use Rattle.hoare_fill.proofs.PuttingLemmas.{beside-no_variable, beside-no_actual}
+use Rattle.hoare_fill.proofs.putting.pair_actuals.Goals as goal
 
 pub returns : goal.returns
 returns c =

@@ -4,8 +4,8 @@ use Rattle.std.specs.Prelude.{List, map}
 use Rattle.store_logic.specs.declared.assertion.Assertion.TheOpen.{Assertion-F}
 use Rattle.store_logic.specs.Filling.{filled_term, filled_truth, filled_set, filled_arg}
 use Rattle.store_logic.specs.Postfix.{Form, form_of}
-use Rattle.hoare_split.specs.declared.putting.Put.{Put}
-use Rattle.hoare_split.specs.Putting.{put_for}
+use Rattle.hoare_fill.specs.declared.putting.Put.{Put}
+use Rattle.hoare_fill.specs.Putting.{put_for}
 
 abbrev pub filled_form : List Put → Form → Form
 filled_form puts Assertion-F.True = Assertion-F.True

@@ -1,6 +1,6 @@
 use Rattle.std.proofs.Common.{◌≡◌, ◌==◌, drop}
 use Rattle.std.specs.List.{find}
-use Rattle.hoare_split.proofs.putting.actual_for.Given as goal
+use Rattle.hoare_fill.proofs.putting.actual_for.Given as goal
 
 -- what was gone through is of other variables
 abbrev pub invariant-loop-put : goal.invariant-loop-put

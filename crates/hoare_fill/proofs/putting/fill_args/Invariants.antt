@@ -1,7 +1,7 @@
 use Rattle.std.proofs.Common.{◌≡◌, ◌++◌, drop, map}
 use Rattle.store_logic.specs.Filling.{filled_arg}
-use Rattle.hoare_split.specs.Putting.{put_for}
-use Rattle.hoare_split.proofs.putting.fill_args.Given as goal
+use Rattle.hoare_fill.specs.Putting.{put_for}
+use Rattle.hoare_fill.proofs.putting.fill_args.Given as goal
 
 -- those so far and those that are left
 abbrev pub invariant-loop-arg : goal.invariant-loop-arg

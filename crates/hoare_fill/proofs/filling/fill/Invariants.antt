@@ -1,8 +1,8 @@
 use Rattle.std.proofs.Common.{◌≡◌, Some, [], ◌∷◌, drop, map}
 use Rattle.store_logic.specs.Postfix.{form_of, run_on}
-use Rattle.hoare_split.specs.Putting.{with_puts}
-use Rattle.hoare_split.specs.Forms.{filled_form}
-use Rattle.hoare_split.proofs.filling.fill.Given as goal
+use Rattle.hoare_fill.specs.Putting.{with_puts}
+use Rattle.hoare_fill.specs.Forms.{filled_form}
+use Rattle.hoare_fill.proofs.filling.fill.Given as goal
 
 -- the forms that are left make the whole of what is made so far
 abbrev pub invariant-loop-form : goal.invariant-loop-form

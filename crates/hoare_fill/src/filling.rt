@@ -5,8 +5,8 @@ ghost use Rattle.store_logic.specs.declared.assertion.Assertion.{Assertion};
 ghost use Rattle.store_logic.specs.declared.assertion.Assertion.TheVariants as assertion;
 ghost use Rattle.store_logic.specs.Filling.{filled_term};
 ghost use Rattle.store_logic.specs.Postfix.{form_of, has_parts, applied};
-ghost use Rattle.hoare_split.specs.Putting.{put_for, with_puts};
-ghost use Rattle.hoare_split.specs.Forms.{filled_form};
+ghost use Rattle.hoare_fill.specs.Putting.{put_for, with_puts};
+ghost use Rattle.hoare_fill.specs.Forms.{filled_form};
 
 use crate::putting::{Put, fill_args, fill_set, fill_term, fill_truth};
 use plain_data::Stack;
@@ -15,11 +15,7 @@ use store_core::Route;
 use store_logic::{Assertion, Term};
 
 /// The assertion with what is handed over put in for its variables, by loops, however deep it is.
-pub(crate) fn fill(
-    alloc: Global,
-    puts: &[Put],
-    assertion: &Assertion,
-) -> Result<Assertion, AllocError>
+pub fn fill(alloc: Global, puts: &[Put], assertion: &Assertion) -> Result<Assertion, AllocError>
     ensures { IfOk result (λ filled. filled ≡ with_puts puts.now assertion.now) }
 {
     let forms = assertion.in_postfix(alloc)?;

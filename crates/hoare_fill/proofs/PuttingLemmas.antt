@@ -3,7 +3,7 @@ use Rattle.std.proofs.Common.{◌≡◌, List, [], ◌∷◌, length, map, refl,
 use Rattle.store_core.specs.declared.ids.VarId.{VarId}
 use Rattle.pale_calls.specs.declared.actual.Actual.{Actual}
 use Rattle.pale_calls.specs.declared.actual.Actual.TheVariants as actual
-use Rattle.hoare_split.specs.Putting.{beside}
+use Rattle.hoare_fill.specs.Putting.{beside}
 
 pub beside-no_variable : (vars : List VarId) (actuals : List Actual) → length vars ≡ 0 → beside vars actuals ≡ []
 beside-no_variable [] actuals none = refl

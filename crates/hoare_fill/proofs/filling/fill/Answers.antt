@@ -1,10 +1,10 @@
 use Rattle.std.proofs.Common.{◌≡◌, List, [], ◌∷◌, map, refl, sym, ap, ◌∙◌}
 use Rattle.store_logic.specs.Postfix.{form_of, postfix_of, run_on}
 use Rattle.store_logic.proofs.PostfixLemmas.{run_on-whole, applied-next}
-use Rattle.hoare_split.specs.Putting.{with_puts}
-use Rattle.hoare_split.specs.Forms.{filled_form}
-use Rattle.hoare_split.proofs.FormLemmas.{postfix-with_puts}
-use Rattle.hoare_split.proofs.filling.fill.Goals as goal
+use Rattle.hoare_fill.specs.Putting.{with_puts}
+use Rattle.hoare_fill.specs.Forms.{filled_form}
+use Rattle.hoare_fill.proofs.FormLemmas.{postfix-with_puts}
+use Rattle.hoare_fill.proofs.filling.fill.Goals as goal
 
 both : {A B C : Type 0} (f : B → C) (g : A → B) (xs : List A) → map (λ x. f (g x)) xs ≡ map f (map g xs)
 both f g [] = refl

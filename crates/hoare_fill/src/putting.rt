@@ -3,7 +3,7 @@
 ghost use Rattle.std.specs.Prelude.{◌≡◌, ◌++◌, map, IfOk, OnOk};
 ghost use Rattle.store_logic.specs.Filling.{filled_term, filled_truth, filled_set, filled_arg, constant};
 ghost use Rattle.pale_calls.specs.declared.actual.Actual.TheVariants as actual;
-ghost use Rattle.hoare_split.specs.Putting.{beside, actual_for, put_for, filling};
+ghost use Rattle.hoare_fill.specs.Putting.{beside, actual_for, put_for, filling};
 
 use pale_calls::Actual;
 use plain_data::Items;
@@ -18,10 +18,11 @@ pub struct Put {
     pub actual: Actual,
 }
 
-pub(crate) type PutList = Items<Put>;
+/// Variables with what is handed over for them, in order.
+pub type PutList = Items<Put>;
 
 /// Puts each variable with what is handed over for it at the end of the list.
-pub(crate) fn pair_actuals(
+pub fn pair_actuals(
     puts: &mut PutList,
     vars: &[VarId],
     actuals: &[Actual],
@@ -38,11 +39,7 @@ pub(crate) fn pair_actuals(
 }
 
 /// The same of variables alone.
-pub(crate) fn pair_results(
-    puts: &mut PutList,
-    vars: &[VarId],
-    results: &[VarId],
-) -> Result<(), AllocError>
+pub fn pair_results(puts: &mut PutList, vars: &[VarId], results: &[VarId]) -> Result<(), AllocError>
     ensures { OnOk result (puts.new ≡ puts.old ++ beside vars.now (map (λ v. actual.Var v) results.now)) }
 {
     for (var, result) in vars.iter().zip(results) {
@@ -137,18 +134,24 @@ pub(crate) fn fill_set(puts: &[Put], name: Base) -> Base
     }
 }
 
+/// An argument of a predicate.
+fn fill_arg(alloc: Global, puts: &[Put], arg: &Arg) -> Result<Arg, AllocError>
+    ensures { IfOk result (λ filled. filled ≡ filled_arg (put_for puts.now) 0 arg.now) }
+{
+    match arg {
+        Arg::Cell(term) => Ok(Arg::Cell(fill_term(alloc, puts, term)?)),
+        Arg::Set(name) => Ok(Arg::Set(fill_set(puts, *name))),
+        Arg::Truth(term) => Ok(Arg::Truth(fill_term(alloc, puts, term)?)),
+    }
+}
+
 /// The arguments of a predicate.
 pub(crate) fn fill_args(alloc: Global, puts: &[Put], args: &[Arg]) -> Result<ArgList, AllocError>
     ensures { IfOk result (λ filled. filled ≡ map (filled_arg (put_for puts.now) 0) args.now) }
 {
     let mut filled = ArgList::new(alloc);
     for arg in args {
-        let next = match arg {
-            Arg::Cell(term) => Arg::Cell(fill_term(alloc, puts, term)?),
-            Arg::Set(name) => Arg::Set(fill_set(puts, *name)),
-            Arg::Truth(term) => Arg::Truth(fill_term(alloc, puts, term)?),
-        };
-        filled.push(next)?;
+        filled.push(fill_arg(alloc, puts, arg)?)?;
     }
     Ok(filled)
 }

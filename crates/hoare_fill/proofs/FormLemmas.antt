@@ -24,10 +24,10 @@ use Rattle.store_logic.proofs.AssertionLemmas.{fold-True, fold-False, fold-Truth
 use Rattle.store_logic.proofs.AssertionLemmas.{fold-Not, fold-And, fold-Or, fold-Imp, fold-Iff, fold-Ex, fold-All, fold-ExSet, fold-AllSet}
 use Rattle.pale_calls.specs.declared.actual.Actual.{Actual}
 use Rattle.pale_calls.specs.declared.actual.Actual.TheVariants as actual
-use Rattle.hoare_split.specs.declared.putting.Put.{Put}
-use Rattle.hoare_split.specs.declared.putting.Filled.{Filled}
-use Rattle.hoare_split.specs.Putting.{actual_for, filling_of, filling, put_for, with_puts}
-use Rattle.hoare_split.specs.Forms.{filled_form}
+use Rattle.hoare_fill.specs.declared.putting.Put.{Put}
+use Rattle.hoare_fill.specs.declared.putting.Filled.{Filled}
+use Rattle.hoare_fill.specs.Putting.{actual_for, filling_of, filling, put_for, with_puts}
+use Rattle.hoare_fill.specs.Forms.{filled_form}
 
 -- ---- what is handed over stands the same under quantifiers
 

@@ -1,7 +1,7 @@
 use Rattle.std.proofs.Common.{◌≡◌, ◌++◌, map}
 use Rattle.pale_calls.specs.declared.actual.Actual.TheVariants as actual
-use Rattle.hoare_split.specs.Putting.{beside}
-use Rattle.hoare_split.proofs.putting.pair_results.Given as goal
+use Rattle.hoare_fill.specs.Putting.{beside}
+use Rattle.hoare_fill.proofs.putting.pair_results.Given as goal
 
 -- those so far and those that are left
 abbrev pub invariant-loop-var : goal.invariant-loop-var

@@ -1,6 +1,6 @@
 use Rattle.std.proofs.Common.{◌≡◌, ◌++◌}
-use Rattle.hoare_split.specs.Putting.{beside}
-use Rattle.hoare_split.proofs.putting.pair_actuals.Given as goal
+use Rattle.hoare_fill.specs.Putting.{beside}
+use Rattle.hoare_fill.proofs.putting.pair_actuals.Given as goal
 
 -- those so far and those that are left
 abbrev pub invariant-loop-var : goal.invariant-loop-var

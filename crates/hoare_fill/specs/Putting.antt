@@ -11,9 +11,9 @@ use Rattle.store_logic.specs.declared.assertion.Assertion.{Assertion}
 use Rattle.store_logic.specs.Filling.{Filling, of_term, of_truth, kept, filled}
 use Rattle.pale_calls.specs.declared.actual.Actual.{Actual}
 use Rattle.pale_calls.specs.declared.actual.Actual.TheVariants as actual
-use Rattle.hoare_split.specs.declared.putting.Put.{Put}
-use Rattle.hoare_split.specs.declared.putting.Filled.{Filled}
-use Rattle.hoare_split.specs.declared.putting.Filled.TheVariants as made
+use Rattle.hoare_fill.specs.declared.putting.Put.{Put}
+use Rattle.hoare_fill.specs.declared.putting.Filled.{Filled}
+use Rattle.hoare_fill.specs.declared.putting.Filled.TheVariants as made
 
 -- each variable with what is handed over for it
 abbrev pub beside : List VarId → List Actual → List Put
