@@ -1,5 +1,5 @@
 -- Conditions, part by part.
-use Rattle.std.proofs.Common.{◌≡◌, ℕ, List, Result, Ok, Err, IfOk, sym, ap, ap₂, ◌∙◌, subst}
+use Rattle.std.proofs.Common.{◌≡◌, ℕ, List, sym, ap, ap₂, ◌∙◌, subst}
 use Rattle.store_core.specs.declared.ids.VariantId.{VariantId}
 use Rattle.store_core.specs.Tables.{TypeEntry, VarEntry}
 use Rattle.store_logic.specs.declared.path.Path.{Path}
@@ -21,11 +21,6 @@ use Rattle.site_list.specs.Conditions.{Telling, told_variant, then_same, told_no
 use Rattle.pred_transform.specs.declared.walker.Walker.{Walker}
 use Rattle.pred_transform.specs.Shown.{shown, Tells}
 use Rattle.pred_transform.proofs.ShownLemmas.{seen-shown}
-
--- what is known of a value where a call gave one
-pub IfOk-by : {T E : Type 0} (r : Result T E) {P Q : T → Type 0} → IfOk r P → ((x : T) → P x → Q x) → IfOk r Q
-IfOk-by (Ok x) is f = f x is
-IfOk-by (Err e) is f = tt
 
 module _ (types : List TypeEntry) (vars : List VarEntry) (line next wanted : ℕ) (text : Text) (s : State) where
   pub variant-told : (got : Got) (w1 w2 : Walker) (v : VariantId) (cell : Sym) (formula : Formula) → cell ≡ got.0 → w1 ≡ shown next wanted (got.1) →
