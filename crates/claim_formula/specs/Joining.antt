@@ -11,13 +11,13 @@ use Rattle.store_logic.specs.declared.assertion.Assertion.{Assertion, out-Assert
 use Rattle.store_logic.specs.declared.assertion.Assertion.TheOpen.{Assertion-F}
 use Rattle.ws2s_core.specs.declared.formula.Formula.{Formula}
 use Rattle.ws2s_core.specs.declared.formula.Formula.TheVariants.{Root, And, Not}
-use Rattle.ws2s_forms.specs.Forms.{track, and_list, or, imp, iff, ex1, all1}
+use Rattle.ws2s_forms.specs.Forms.{track, true_at, false_at, and_list, or, imp, iff, ex1, all1}
 use Rattle.graph_view.specs.declared.view.Sym.{Sym}
 use Rattle.graph_view.specs.Syms.{is_in}
 use Rattle.graph_view.specs.Sights.{Sight}
 use Rattle.graph_view.specs.Live.{lives, lives_in, is_live}
 use Rattle.graph_view.specs.Routes.{names, walk}
-use Rattle.site_list.specs.Claims.{base_value, is_value, ex_set}
+use Rattle.site_list.specs.Claims.{base_value, is_value, is_true_term, ex_set}
 
 -- ---- terms
 
@@ -51,6 +51,20 @@ abbrev pub walk_formula : List TypeEntry → Sight → List Sym → Term → Rou
 walk_formula types sight values t along u next =
     ex1 next (ex1 (suc next) (and_list (suc (suc next)) (is_value types sight values next t (suc (suc next)) next
     ∷ is_value types sight values next u (suc (suc next)) (suc next) ∷ walk types sight along (suc (suc next)) next (suc next) ∷ [])))
+
+-- the formula of a form without parts; one with parts holds nowhere
+abbrev pub alone_node : {Part : Type 0} → List TypeEntry → Sight → List Sym → Assertion-F Part → ℕ → Formula
+alone_node types sight values Assertion-F.True next = true_at next
+alone_node types sight values (Assertion-F.Truth t) next = is_true_term types sight values next t
+alone_node types sight values (Assertion-F.Is t v) next = variant_formula types sight values t v next
+alone_node types sight values (Assertion-F.Same t u) next = same_formula types sight values t u next
+alone_node types sight values (Assertion-F.Member t set) next = member_formula types sight values t set next
+alone_node types sight values (Assertion-F.Subset set other) next = subset_formula types sight values set other next
+alone_node types sight values (Assertion-F.Walk t along u) next = walk_formula types sight values t along u next
+alone_node types sight values _ next = false_at next
+
+abbrev pub alone : List TypeEntry → Sight → List Sym → Assertion → ℕ → Formula
+alone types sight values a next = alone_node types sight values (out-Assertion a) next
 
 -- ---- forms with parts
 

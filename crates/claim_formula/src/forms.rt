@@ -1,7 +1,10 @@
 //! Forms of assertions without parts, as formulas.
 
-ghost use Rattle.std.specs.Prelude.{◌≡◌, IfOk};
+ghost use Rattle.std.specs.Prelude.{◌≡◌, [], ◌∷◌, IfOk};
+ghost use Rattle.ws2s_forms.specs.Forms as forms;
+ghost use Rattle.graph_view.specs.Routes as routes;
 ghost use Rattle.graph_view.specs.Sights.{sight_of};
+ghost use Rattle.site_list.specs.Claims as formulas;
 ghost use Rattle.claim_formula.specs.Joining.{variant_formula, same_formula, member_formula, subset_formula, walk_formula};
 
 use crate::terms::{base_value, is_value};
@@ -88,6 +91,30 @@ pub(crate) fn subset_formula(
     all1(alloc, next, imp(alloc, both, there)?)
 }
 
+/// The values of two terms are the live cells on the tracks `own` and `second`, and the route leads from the first to the second; the
+/// terms stand where `own` is the next track.
+fn walk_between(
+    alloc: Global,
+    l: &Layout<'_>,
+    view: &View,
+    own: u32,
+    second: u32,
+    next: u32,
+    from: &Term,
+    route: &Route,
+    to: &Term,
+) -> Result<Formula, AllocError>
+    ensures { IfOk result (λ formula. formula ≡ forms.and_list next
+        (formulas.is_value l.now.types (sight_of l.now.vars view.now) view.now.vars own from.now next own
+        ∷ formulas.is_value l.now.types (sight_of l.now.vars view.now) view.now.vars own to.now next second
+        ∷ routes.walk l.now.types (sight_of l.now.vars view.now) route.now next own second ∷ [])) }
+{
+    let start = is_value(alloc, l, view, own, next, from, own)?;
+    let end = is_value(alloc, l, view, own, next, to, second)?;
+    let leads = walk(alloc, l, view, route, next, own, second)?;
+    and_list(alloc, next, vec![in alloc; start, end, leads]?)
+}
+
 /// `t<R>u`.
 pub(crate) fn walk_formula(
     alloc: Global,
@@ -103,10 +130,7 @@ pub(crate) fn walk_formula(
 {
     let second = later(next, 1)?;
     let inner = later(second, 1)?;
-    let start = is_value(alloc, l, view, next, inner, from, next)?;
-    let end = is_value(alloc, l, view, next, inner, to, second)?;
-    let leads = walk(alloc, l, view, route, inner, next, second)?;
-    let parts = vec![in alloc; start, end, leads]?;
-    let some = ex1(alloc, second, and_list(alloc, inner, parts)?)?;
+    let leads = walk_between(alloc, l, view, next, second, inner, from, route, to)?;
+    let some = ex1(alloc, second, leads)?;
     ex1(alloc, next, some)
 }

@@ -4,6 +4,7 @@ ghost use Rattle.std.specs.Prelude.{◌≡◌, ◌+◌, ◌<◌, ◌∷◌, IfOk
 ghost use Rattle.store_logic.specs.Postfix.{form_count};
 ghost use Rattle.graph_view.specs.Sights.{sight_of};
 ghost use Rattle.site_list.specs.Claims.{assertion};
+ghost use Rattle.claim_formula.specs.Joining.{alone};
 ghost use Rattle.claim_formula.specs.Tasks.{done, weight_of};
 
 use crate::forms::{member_formula, same_formula, subset_formula, variant_formula, walk_formula};
@@ -57,6 +58,38 @@ fn push_one<'a>(
     Ok(())
 }
 
+/// A form without parts. What has parts counts as one that holds nowhere: it isn't written here.
+fn form_alone(
+    alloc: Global,
+    l: &Layout<'_>,
+    view: &View,
+    part: &Assertion,
+    next: u32,
+) -> Result<Formula, AllocError>
+    ensures { IfOk result (λ formula. formula ≡ alone l.now.types (sight_of l.now.vars view.now) view.now.vars part.now next) }
+{
+    match part {
+        Assertion::True => true_at(alloc, next),
+        Assertion::Truth(term) => is_true_term(alloc, l, view, next, term),
+        Assertion::Is(term, variant) => variant_formula(alloc, l, view, next, term, *variant),
+        Assertion::Same(one, other) => same_formula(alloc, l, view, next, one, other),
+        Assertion::Member(term, set) => member_formula(alloc, l, view, next, term, *set),
+        Assertion::Subset(one, other) => subset_formula(alloc, l, view, next, *one, *other),
+        Assertion::Walk(from, route, to) => walk_formula(alloc, l, view, next, from, route, to),
+        Assertion::False
+        | Assertion::Pred(_, _)
+        | Assertion::Not(_)
+        | Assertion::And(_, _)
+        | Assertion::Or(_, _)
+        | Assertion::Imp(_, _)
+        | Assertion::Iff(_, _)
+        | Assertion::Ex(_, _)
+        | Assertion::All(_, _)
+        | Assertion::ExSet(_, _)
+        | Assertion::AllSet(_, _) => false_at(alloc, next),
+    }
+}
+
 /// Writes a form without parts; one with parts waits for them.
 fn write<'a>(
     alloc: Global,
@@ -73,22 +106,6 @@ fn write<'a>(
     ensures less { OnOk result (weight_of tasks.new < form_count part.now + form_count part.now + weight_of tasks.old) }
 {
     match part {
-        Assertion::True => made.push(true_at(alloc, next)?),
-        Assertion::False | Assertion::Pred(_, _) => made.push(false_at(alloc, next)?),
-        Assertion::Truth(term) => made.push(is_true_term(alloc, l, view, next, term)?),
-        Assertion::Is(term, variant) => {
-            made.push(variant_formula(alloc, l, view, next, term, *variant)?)
-        }
-        Assertion::Same(one, other) => made.push(same_formula(alloc, l, view, next, one, other)?),
-        Assertion::Member(term, set) => made.push(member_formula(
-            alloc, l, view, next, term, *set,
-        )?),
-        Assertion::Subset(one, other) => {
-            made.push(subset_formula(alloc, l, view, next, *one, *other)?)
-        }
-        Assertion::Walk(from, route, to) => {
-            made.push(walk_formula(alloc, l, view, next, from, route, to)?)
-        }
         Assertion::And(left, right)
         | Assertion::Or(left, right)
         | Assertion::Imp(left, right)
@@ -100,6 +117,15 @@ fn write<'a>(
         | Assertion::AllSet(_, inner) => {
             push_one(tasks, part, inner.get(), next, later(next, 1)?)
         }
+        Assertion::True
+        | Assertion::False
+        | Assertion::Truth(_)
+        | Assertion::Is(_, _)
+        | Assertion::Same(_, _)
+        | Assertion::Member(_, _)
+        | Assertion::Subset(_, _)
+        | Assertion::Walk(_, _, _)
+        | Assertion::Pred(_, _) => made.push(form_alone(alloc, l, view, part, next)?),
     }
 }
 

@@ -2,12 +2,14 @@
 
 ghost use Rattle.std.specs.Prelude.{◌≡◌, ℕ, suc, min, Some, slice_get, IfOk, OnOk};
 ghost use Rattle.std.specs.Option.{option_map_or};
+ghost use Rattle.ws2s_core.specs.declared.formula.Formula.TheVariants.{And, Not};
 ghost use Rattle.ws2s_forms.specs.Forms.{track};
+ghost use Rattle.site_list.specs.Acts as acts;
 ghost use Rattle.site_list.specs.States as states;
 ghost use Rattle.site_list.specs.Conditions as conditions;
 ghost use Rattle.site_list.specs.Codes as codes;
 ghost use Rattle.site_list.specs.Cuts as arriving;
-ghost use Rattle.pred_transform.specs.Shown.{merged_value, shown, with_guard, with_values, with_events, Leads};
+ghost use Rattle.pred_transform.specs.Shown.{merged_value, shown, with_guard, with_values, with_events, Follows, Leads};
 ghost use Rattle.pred_transform.specs.Forks.{IsFork};
 
 use crate::acts::{act, made_truth};
@@ -24,6 +26,36 @@ use tree_encode::Layout;
 use ws2s_core::{Formula, Track};
 use ws2s_forms::later;
 
+/// A track for the way where this holds, where the statement is reached.
+fn make_first(
+    alloc: Global,
+    l: &Layout<'_>,
+    w: &mut Walker,
+    here: &Formula,
+    holds: &Formula,
+) -> Result<(), AllocError>
+    ensures { OnOk result (Follows (And here.now holds.now) w.old w.new (λ text s. (acts.made_truth l.now.types l.now.vars (text, s)).1)) }
+{
+    let taken = both(alloc, here, holds)?;
+    let _made = made_truth(alloc, l, w, &taken)?;
+    Ok(())
+}
+
+/// A track for the way where this doesn't hold, where the statement is reached.
+fn make_other(
+    alloc: Global,
+    l: &Layout<'_>,
+    w: &mut Walker,
+    here: &Formula,
+    holds: &Formula,
+) -> Result<(), AllocError>
+    ensures { OnOk result (Follows (And here.now (Not holds.now)) w.old w.new (λ text s. (acts.made_truth l.now.types l.now.vars (text, s)).1)) }
+{
+    let other = but_not(alloc, here, holds)?;
+    let _made = made_truth(alloc, l, w, &other)?;
+    Ok(())
+}
+
 /// A track for the way where this holds and a track for the other one, each where the statement is reached. Gives the first.
 fn fork_ways(
     alloc: Global,
@@ -36,10 +68,8 @@ fn fork_ways(
 {
     let here = reached(alloc, w)?;
     let way = next_track(l, w)?;
-    let taken = both(alloc, &here, holds)?;
-    let _first = made_truth(alloc, l, w, &taken)?;
-    let other = but_not(alloc, &here, holds)?;
-    let _second = made_truth(alloc, l, w, &other)?;
+    make_first(alloc, l, w, &here, holds)?;
+    make_other(alloc, l, w, &here, holds)?;
     Ok(way)
 }
 

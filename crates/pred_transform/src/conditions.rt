@@ -65,26 +65,26 @@ pub(crate) fn condition(
         (conditions.condition l.now.types l.now.vars line cond.now)) }
 {
     match cond {
-        Cond::True => Ok(true_at(alloc, w.view.next)?),
-        Cond::False => Ok(false_at(alloc, w.view.next)?),
-        Cond::Bool(path) => Ok(path_truth(alloc, l, w, reached, path)?),
-        Cond::Is(path, variant) => Ok(path_is(alloc, l, w, reached, path, *variant)?),
-        Cond::Same(one, other) => Ok(are_same(alloc, l, w, reached, one, other)?),
+        Cond::True => true_at(alloc, w.view.next),
+        Cond::False => false_at(alloc, w.view.next),
+        Cond::Bool(path) => path_truth(alloc, l, w, reached, path),
+        Cond::Is(path, variant) => path_is(alloc, l, w, reached, path, *variant),
+        Cond::Same(one, other) => are_same(alloc, l, w, reached, one, other),
         Cond::Not(part) => {
             let inner = condition(alloc, l, w, reached, part.get())?;
-            Ok(Formula::not(alloc, inner)?)
+            Formula::not(alloc, inner)
         }
         Cond::And(left, right) => {
             let first = condition(alloc, l, w, reached, left.get())?;
             let there = both(alloc, reached, &first)?;
             let second = condition(alloc, l, w, &there, right.get())?;
-            Ok(Formula::and(alloc, first, second)?)
+            Formula::and(alloc, first, second)
         }
         Cond::Or(left, right) => {
             let first = condition(alloc, l, w, reached, left.get())?;
             let there = but_not(alloc, reached, &first)?;
             let second = condition(alloc, l, w, &there, right.get())?;
-            Ok(or(alloc, first, second)?)
+            or(alloc, first, second)
         }
     }
 }

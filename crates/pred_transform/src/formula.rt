@@ -1,8 +1,8 @@
 //! The formulas of the places where a triple can fail.
 
-ghost use Rattle.std.specs.Prelude.{◌≡◌, ◌++◌, [], map, None, IfOk, OnOk};
+ghost use Rattle.std.specs.Prelude.{◌≡◌, ◌++◌, [], ◌∷◌, map, reverse, None, IfOk, OnOk};
 ghost use Rattle.ws2s_forms.specs.Forms as forms;
-ghost use Rattle.tree_encode.specs.Tracks.{var_track};
+ghost use Rattle.tree_encode.specs.Tracks.{track_count, var_track};
 ghost use Rattle.tree_formula.specs.WellEncoded.{track_or_first};
 ghost use Rattle.site_list.specs.Triples as triples;
 ghost use Rattle.pred_transform.specs.Shown.{shown};
@@ -167,6 +167,21 @@ fn push_nulls(
     Ok(())
 }
 
+/// A formula with the tracks that were made bound.
+fn push_bound(
+    alloc: Global,
+    l: &Layout<'_>,
+    parts: &mut Vec<Formula>,
+    defined: &[Formula],
+    formula: Formula,
+) -> Result<(), AllocError>
+    ensures { OnOk result (parts.new.items
+        ≡ parts.old.items ++ triples.bind (track_count l.now.types l.now.vars) (reverse defined.now) formula ∷ []) }
+{
+    parts.push(bind(alloc, l.tracks(), defined, formula)?)?;
+    Ok(())
+}
+
 /// The formula of a place, whose own one is `place`.
 fn site_formula(
     alloc: Global,
@@ -182,9 +197,18 @@ fn site_formula(
     let mut parts = vec![in alloc; tree]?;
     push_nulls(alloc, l, &mut parts, start.nulls.as_slice(), next)?;
     let holds = start_holds(alloc, l, start, next)?;
-    parts.push(bind(alloc, l.tracks(), defined, holds)?)?;
-    parts.push(bind(alloc, l.tracks(), defined, place)?)?;
+    push_bound(alloc, l, &mut parts, defined, holds)?;
+    push_bound(alloc, l, &mut parts, defined, place)?;
     and_list(alloc, next, parts)
+}
+
+/// The first track that quantifiers bind: behind those of the layout and all that a walk over the code makes.
+fn first_bound(alloc: Global, l: &Layout<'_>, t: &Triple, site: u32) -> Result<u32, AllocError>
+    ensures { IfOk result (λ next. next ≡ triples.first_bound l.now.types l.now.vars (triples.walked l.now.types l.now.vars t.now)) }
+{
+    let first = walk(alloc, l, t, 0, site)?;
+    let next = next_track(l, &first)?;
+    Ok(next.0)
 }
 
 /// The formula of the site of a triple with this number, counted from 0: which trees are those of stores that meet the triple and
@@ -201,8 +225,7 @@ pub fn triple_formula(
 ) -> Result<Option<Formula>, AllocError>
     ensures value { IfOk result (λ formula. formula ≡ triples.site_formula l.now.types l.now.vars t.now site) }
 {
-    let first = walk(alloc, l, t, 0, site)?;
-    let next = next_track(l, &first)?.0;
+    let next = first_bound(alloc, l, t, site)?;
     let w = walk(alloc, l, t, next, site)?;
     let Walker {
         defined,

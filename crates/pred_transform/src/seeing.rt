@@ -1,9 +1,12 @@
 //! What is said of the store after changes of the heap, beside what `graph_type` says of it.
 
-ghost use Rattle.std.specs.Prelude.{◌≡◌, IfOk};
+ghost use Rattle.std.specs.Prelude.{◌≡◌, suc, IfOk};
 ghost use Rattle.ws2s_core.specs.declared.formula.Formula.TheVariants.{And, Not, Root};
 ghost use Rattle.ws2s_forms.specs.Forms as forms;
+ghost use Rattle.graph_view.specs.declared.view.Sym.TheVariants.{At};
+ghost use Rattle.graph_view.specs.Routes as routes;
 ghost use Rattle.graph_view.specs.Sights.{sight_of};
+ghost use Rattle.graph_view.specs.Syms as syms;
 ghost use Rattle.site_list.specs.Reading as reading;
 ghost use Rattle.site_list.specs.Parts as parts;
 ghost use Rattle.site_list.specs.Codes as codes;
@@ -69,6 +72,25 @@ pub(crate) fn is_true_of(
     ex1(alloc, next, Formula::and(alloc, there, truth)?)
 }
 
+/// The field names the cell on the track `to` at some cell of the value; that cell is on the track `from`.
+fn is_named(
+    alloc: Global,
+    l: &Layout<'_>,
+    view: &View,
+    from: u32,
+    field: FieldId,
+    value: Sym,
+    to: u32,
+) -> Result<Formula, AllocError>
+    ensures { IfOk result (λ formula. formula ≡ forms.ex1 from
+        (And (syms.is_in (suc from) from value) (routes.names l.now.types (sight_of l.now.vars view.now) (suc from) field from to))) }
+{
+    let inner = later(from, 1)?;
+    let there = is_in(alloc, inner, from, value)?;
+    let step = names(alloc, l, view, inner, field, from, to)?;
+    ex1(alloc, from, Formula::and(alloc, there, step)?)
+}
+
 /// The track has the cells that the field names at those of the value.
 pub(crate) fn is_read(
     alloc: Global,
@@ -82,12 +104,30 @@ pub(crate) fn is_read(
     ensures { IfOk result (λ formula. formula ≡ reading.is_read l.now.types (sight_of l.now.vars view.now) field value own.0 next) }
 {
     let from = later(next, 1)?;
-    let inner = later(from, 1)?;
-    let there = is_in(alloc, inner, from, value)?;
-    let step = names(alloc, l, view, inner, field, from, next)?;
-    let named = ex1(alloc, from, Formula::and(alloc, there, step)?)?;
+    let named = is_named(alloc, l, view, from, field, value, next)?;
     let both = iff(alloc, Formula::Sub(Track(next), own), named)?;
     all1(alloc, next, both)
+}
+
+/// The track is the root, and this holds.
+fn is_root_where(alloc: Global, holds: &Formula, own: Track) -> Result<Formula, AllocError>
+    ensures { IfOk result (λ formula. formula ≡ And (Root own) holds.now) }
+{
+    Formula::and(alloc, Formula::Root(own), holds.copy(alloc)?)
+}
+
+/// The track is empty, and this doesn't hold.
+fn is_empty_unless(
+    alloc: Global,
+    next: u32,
+    holds: &Formula,
+    own: Track,
+) -> Result<Formula, AllocError>
+    ensures { IfOk result (λ formula. formula ≡ And (forms.empty_at next own.0) (Not holds.now)) }
+{
+    let fails = Formula::not(alloc, holds.copy(alloc)?)?;
+    let empty = empty_at(alloc, next, own)?;
+    Formula::and(alloc, empty, fails)
 }
 
 /// The track is the root where this holds, and else it is empty.
@@ -100,10 +140,9 @@ pub(crate) fn is_truth_of(
     ensures { IfOk result (λ formula. formula
         ≡ forms.or (And (Root own) holds.now) (And (forms.empty_at next own.0) (Not holds.now))) }
 {
-    let root = Formula::and(alloc, Formula::Root(own), holds.copy(alloc)?)?;
-    let fails = Formula::not(alloc, holds.copy(alloc)?)?;
-    let empty = empty_at(alloc, next, own)?;
-    or(alloc, root, Formula::and(alloc, empty, fails)?)
+    let root = is_root_where(alloc, holds, own)?;
+    let empty = is_empty_unless(alloc, next, holds, own)?;
+    or(alloc, root, empty)
 }
 
 /// Both hold.
@@ -121,6 +160,20 @@ pub(crate) fn but_not(alloc: Global, one: &Formula, other: &Formula) -> Result<F
     Formula::and(alloc, one.copy(alloc)?, fails)
 }
 
+/// The formula holds, and the track has the value.
+fn has_where(
+    alloc: Global,
+    next: u32,
+    holds: Formula,
+    own: Track,
+    value: Sym,
+) -> Result<Formula, AllocError>
+    ensures { IfOk result (λ formula. formula ≡ And holds (syms.is_same next (At own) value)) }
+{
+    let same = is_same(alloc, next, Sym::At(own), value)?;
+    Formula::and(alloc, holds, same)
+}
+
 /// The track has the one value on the first way, whose track is `way`, and else the other.
 pub(crate) fn is_merged(
     alloc: Global,
@@ -134,10 +187,9 @@ pub(crate) fn is_merged(
 {
     let on = flag(alloc, next, way)?;
     let off = Formula::not(alloc, on.copy(alloc)?)?;
-    let first = is_same(alloc, next, Sym::At(own), one)?;
-    let second = is_same(alloc, next, Sym::At(own), other)?;
-    let left = Formula::and(alloc, on, first)?;
-    or(alloc, left, Formula::and(alloc, off, second)?)
+    let first = has_where(alloc, next, on, own, one)?;
+    let second = has_where(alloc, next, off, own, other)?;
+    or(alloc, first, second)
 }
 
 /// The track has what data fields reach from the roots.

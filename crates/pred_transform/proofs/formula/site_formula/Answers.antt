@@ -1,4 +1,4 @@
-use Rattle.std.proofs.Common.{◌≡◌, List, IfOk, subst}
+use Rattle.std.proofs.Common.{◌≡◌, List, IfOk, refl, subst}
 use Rattle.ws2s_core.specs.declared.formula.Formula.{Formula}
 use Rattle.ws2s_forms.specs.Forms.{and_list}
 use Rattle.pred_transform.proofs.FormulaLemmas.{site-parts}
@@ -9,8 +9,7 @@ returns c =
     let next = c.args.next in
     subst (λ (made : List Formula). IfOk c.and_list.result (λ formula. formula ≡ and_list next made))
     (site-parts c.args.l.now.types c.args.l.now.vars c.args.start.now c.args.defined.now next c.args.place c.in_ok-tree.tree c.in_ok-holds.holds
-    c.in_ok-bind.field-0 c.in_ok-bind-2.field-0 c.as_slice.result.now c.tracks.result c.tracks-2.result c.in_ok-parts.parts.items
-    c.push_nulls.new.parts.items c.push.new.self.items c.push-2.new.self.items c.in_ok-tree.ensures c.in_ok-parts.ensures.items c.as_slice.ensures
-    c.in_ok-push_nulls.ensures c.in_ok-holds.ensures c.tracks.ensures c.in_ok-bind.ensures c.tracks-2.ensures c.in_ok-bind-2.ensures
-    c.in_ok-push.ensures.items c.in_ok-push-2.ensures.items)
+    _ _ c.as_slice.result.now _ _ c.in_ok-parts.parts.items c.push_nulls.new.parts.items c.push_bound.new.parts.items c.push_bound-2.new.parts.items
+    c.in_ok-tree.ensures c.in_ok-parts.ensures.items c.as_slice.ensures c.in_ok-push_nulls.ensures c.in_ok-holds.ensures refl refl refl refl
+    c.in_ok-push_bound.ensures c.in_ok-push_bound-2.ensures)
     c.and_list.ensures
