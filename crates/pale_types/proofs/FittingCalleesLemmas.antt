@@ -29,14 +29,15 @@ use Rattle.pale_calls.specs.Calls as calls
 use Rattle.pale_calls.specs.Calls.{callee_named, call_fault, results_fault, handed_fault, arguments_fault, has_counts, actual_of}
 use Rattle.pale_types.specs.declared.basis.Basis.{Basis}
 use Rattle.pale_types.specs.declared.typed.ProcEntry.{ProcEntry}
-use Rattle.pale_types.specs.Variables as variables
-use Rattle.pale_types.specs.Formals.{formal_of, logic_formal_of, signature_of, named_of}
-use Rattle.pale_types.specs.Sights.{numbers, first_result, first_logic, vars_of}
+use Rattle.pale_sights.specs.Variables as variables
+use Rattle.pale_sights.specs.Formals.{formal_of, logic_formal_of, signature_of, named_of}
+use Rattle.pale_sights.specs.Sights.{numbers, first_result, first_logic, vars_of}
 use Rattle.pale_types.specs.Statements.{types_of}
-use Rattle.pale_types.specs.Procedures.{heading_of, locals_of, typed_procedure}
-use Rattle.pale_types.specs.Fitting.{kind_at, IsLike, ActualFits}
-use Rattle.pale_types.proofs.FittingSightLemmas.{middle-at, further, one-more, first-part, last-part, last-number}
-use Rattle.pale_types.proofs.FittingCallsLemmas.{Declares, IsActualOf, IsOfKind}
+use Rattle.pale_sights.specs.Headings.{heading_of, locals_of}
+use Rattle.pale_types.specs.Procedures.{typed_procedure}
+use Rattle.pale_sights.specs.Fitting.{kind_at, IsLike, ActualFits}
+use Rattle.pale_sights.proofs.FittingSightLemmas.{middle-at, further, one-more, first-part, last-part, last-number}
+use Rattle.pale_sights.proofs.FittingCallsLemmas.{Declares, IsActualOf, IsOfKind}
 
 -- ---- what is declared
 

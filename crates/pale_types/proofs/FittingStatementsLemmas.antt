@@ -39,24 +39,26 @@ use Rattle.pale_fitting.proofs.ActFitLemmas.{assignment-fits, free-fits}
 use Rattle.pale_calls.specs.Calls as calls
 use Rattle.pale_calls.specs.Calls.{call_fault, call_of, touched, actual_of}
 use Rattle.pale_types.specs.declared.basis.Basis.{Basis}
-use Rattle.pale_types.specs.declared.sights.Frame.{Frame}
+use Rattle.pale_sights.specs.declared.sights.Frame.{Frame}
 use Rattle.pale_types.specs.declared.typed.ProcEntry.{ProcEntry}
 use Rattle.pale_types.specs.declared.typed.Stmt.{Stmt, roll-Stmt}
 use Rattle.pale_types.specs.declared.typed.Stmt.TheVariants as stmt
 use Rattle.pale_types.specs.declared.typed.Stmt.TheOpen.{Stmt-F}
 use Rattle.pale_types.specs.declared.typed.Stmt.TheFolds.{rec-roll-Stmt, map-Stmt}
-use Rattle.pale_types.specs.Formals.{formal_of, logic_formal_of, signature_of, named_of}
-use Rattle.pale_types.specs.Variables as variables
-use Rattle.pale_types.specs.Stated.{stated, stated_or_true, stated_fault}
+use Rattle.pale_sights.specs.Formals.{formal_of, logic_formal_of, signature_of, named_of}
+use Rattle.pale_sights.specs.Variables as variables
+use Rattle.pale_sights.specs.Stated.{stated, stated_or_true, stated_fault}
 use Rattle.pale_types.specs.Statements.{types_of, keep_sight, parts_of, parts_fault, typing_rules, typed_statement, typed_block, block_rule}
 use Rattle.pale_types.specs.Statements.{fault_rules, statement_fault, block_fault}
-use Rattle.pale_types.specs.Procedures.{heading_of, typed_procedure}
-use Rattle.pale_types.specs.Fitting.{cells_in, NameMayBe, StatedFits, CallFits, StatementFitsNode, StatementFits}
-use Rattle.pale_types.proofs.KeepLemmas.{allowed-variables}
+use Rattle.pale_sights.specs.Headings.{heading_of}
+use Rattle.pale_types.specs.Procedures.{typed_procedure}
+use Rattle.pale_sights.specs.Fitting.{cells_in, NameMayBe, StatedFits}
+use Rattle.pale_types.specs.Fitting.{CallFits, StatementFitsNode, StatementFits}
+use Rattle.pale_sights.proofs.KeepLemmas.{allowed-variables}
 use Rattle.pale_types.proofs.StatementLemmas.{fault_form, typed_form}
-use Rattle.pale_types.proofs.FittingNamesLemmas.{AreOpen, IsPassed, stated-names}
-use Rattle.pale_types.proofs.FittingCallsLemmas.{AreResults, arguments-are, arguments-stand, cells-once, results-are}
-use Rattle.pale_types.proofs.FittingKeepLemmas.{IsNamedVariable, IsApart, has_none, nones-open, taken-each, allow-each, untouched}
+use Rattle.pale_sights.proofs.FittingNamesLemmas.{AreOpen, IsPassed, stated-names}
+use Rattle.pale_sights.proofs.FittingCallsLemmas.{AreResults, arguments-are, arguments-stand, cells-once, results-are}
+use Rattle.pale_sights.proofs.FittingKeepLemmas.{IsNamedVariable, IsApart, has_none, nones-open, taken-each, allow-each, untouched}
 use Rattle.pale_types.proofs.FittingCalleesLemmas.{IsCallee, IsFine, IsHanded, kinds_of, callee-is, is-called, is-fine, handed-fit}
 use Rattle.pale_types.proofs.FittingCalleesLemmas.{declares-parameters, declares-logics}
 

@@ -21,7 +21,7 @@ use Rattle.pale_calls.specs.Signatures.{Named}
 use Rattle.pale_types.specs.declared.basis.Basis.{Basis}
 use Rattle.pale_types.specs.declared.typed.ProcEntry.{ProcEntry}
 use Rattle.pale_types.specs.TypedPrograms.{TypedProgram}
-use Rattle.pale_types.specs.Formals.{named_of}
+use Rattle.pale_sights.specs.Formals.{named_of}
 use Rattle.pale_types.specs.Procedures.{typed_procedure, procedure_fault}
 use Rattle.pale_types.specs.Programs.{declared_in, basis_of, typed_list, names_fault, declarations_fault, list_fault}
 

@@ -7,18 +7,19 @@ use Rattle.pale_syntax.specs.declared.tree.declaration.Procedure.{Procedure}
 use Rattle.pale_tables.specs.Faults.{IsStop}
 use Rattle.pale_tables.proofs.FaultLemmas.{stop-then, stop-after, none-then}
 use Rattle.pale_types.specs.declared.basis.Basis.{Basis}
-use Rattle.pale_types.specs.declared.sights.Heading.{Heading}
-use Rattle.pale_types.specs.declared.sights.Frame.{Frame}
-use Rattle.pale_types.specs.declared.procedures.Claims.{Claims}
-use Rattle.pale_types.specs.declared.procedures.Lists.{Lists}
+use Rattle.pale_sights.specs.declared.sights.Heading.{Heading}
+use Rattle.pale_sights.specs.declared.sights.Frame.{Frame}
+use Rattle.pale_sights.specs.declared.headings.Claims.{Claims}
+use Rattle.pale_sights.specs.declared.headings.Lists.{Lists}
 use Rattle.pale_types.specs.declared.typed.ProcEntry.{ProcEntry}
-use Rattle.pale_types.specs.Variables.{variable_of, variables_fault}
-use Rattle.pale_types.specs.Sights.{frame_of}
-use Rattle.pale_types.specs.Framing.{IsBody, IsFrame}
+use Rattle.pale_sights.specs.Variables.{variable_of, variables_fault}
+use Rattle.pale_sights.specs.Sights.{frame_of}
+use Rattle.pale_sights.specs.Framing.{IsBody, IsFrame}
 use Rattle.pale_types.specs.Statements.{types_of, block_fault}
-use Rattle.pale_types.specs.Procedures.{heading_of, locals_of, heading_names, heading_fault, frame_in, claims_fault, claims_of, lists_of, entry_of}
+use Rattle.pale_sights.specs.Headings.{heading_of, locals_of, heading_names, heading_fault, frame_in, claims_fault, claims_of, lists_of}
+use Rattle.pale_types.specs.Procedures.{entry_of}
 use Rattle.pale_types.specs.Procedures.{typed_procedure, procedure_fault}
-use Rattle.pale_types.proofs.ProcedureLemmas.{body-is, frame-in}
+use Rattle.pale_sights.proofs.HeadingLemmas.{body-is, frame-in}
 
 module _ (basis : Basis) (p : Procedure) (none : heading_fault (types_of basis) p ≡ None) (h : Heading) (is : h ≡ heading_of (types_of basis) p) where
   -- a fault of `pre` or `post`

@@ -22,9 +22,9 @@ use Rattle.pale_predicates.specs.Predicates.{bracketed_fault}
 use Rattle.pale_types.specs.declared.typed.Stmt.{Stmt}
 use Rattle.pale_types.specs.declared.typed.Stmt.TheVariants as stmt
 use Rattle.pale_types.specs.declared.basis.Basis.{Basis}
-use Rattle.pale_types.specs.declared.sights.Frame.{Frame}
-use Rattle.pale_types.specs.Stated.{stated}
-use Rattle.pale_types.specs.Framing.{AreOfATable, IsFrame}
+use Rattle.pale_sights.specs.declared.sights.Frame.{Frame}
+use Rattle.pale_sights.specs.Stated.{stated}
+use Rattle.pale_sights.specs.Framing.{AreOfATable, IsFrame}
 use Rattle.pale_types.specs.Statements.{types_of, parts_of, parts_fault, typing_rules, typed_statement, typed_block, block_rule}
 use Rattle.pale_types.specs.Statements.{fault_rules, statement_fault, block_fault}
 
@@ -165,6 +165,8 @@ module _ (basis : Basis) (frame : Frame) (s : Statement) (place : Pos) (c : Cond
         ∙ ap (stmt.If place.line (typed_condition (types_of basis) frame.code c) (typed_block basis frame first))
         (else_is ∙ ap (λ (f : Frame). typed_else basis f other) kept)
         ∙ sym (ap (typed_statement basis frame) is ∙ typed-If basis frame place c first other)
+
+pub ruleset frames = (frame-variables)
 
 -- each form
 pub ruleset statement_forms = (

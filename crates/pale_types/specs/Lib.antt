@@ -1,8 +1,9 @@
-pub mod Variables
-pub mod Formals
-pub mod Sights
-pub mod Framing
-pub mod Stated
+pub use Rattle.pale_sights.specs.Variables
+pub use Rattle.pale_sights.specs.Formals
+pub use Rattle.pale_sights.specs.Sights
+pub use Rattle.pale_sights.specs.Framing
+pub use Rattle.pale_sights.specs.Stated
+pub use Rattle.pale_sights.specs.Headings
 pub mod Statements
 pub mod Procedures
 pub mod TypedPrograms

@@ -13,7 +13,7 @@ use Rattle.pale_predicates.specs.declared.predicates.Declared.{Declared}
 use Rattle.pale_predicates.specs.Predicates.{declared_by, nothing_with, predicates_fault}
 use Rattle.pale_types.specs.declared.basis.Basis.{Basis}
 use Rattle.pale_types.specs.TypedPrograms.{TypedProgram}
-use Rattle.pale_types.specs.Formals.{named_of}
+use Rattle.pale_sights.specs.Formals.{named_of}
 use Rattle.pale_types.specs.Procedures.{procedure_fault, typed_procedure}
 
 -- ---- the declarations of each kind, in order of the text

@@ -20,8 +20,8 @@ use Rattle.pale_types.specs.declared.typed.CallParts.{CallParts}
 use Rattle.pale_types.specs.declared.typed.Stmt.{Stmt}
 use Rattle.pale_types.specs.declared.typed.Stmt.TheVariants as stmt
 use Rattle.pale_types.specs.declared.basis.Basis.{Basis}
-use Rattle.pale_types.specs.declared.sights.Frame.{Frame}
-use Rattle.pale_types.specs.Stated.{stated, stated_or_true, stated_fault}
+use Rattle.pale_sights.specs.declared.sights.Frame.{Frame}
+use Rattle.pale_sights.specs.Stated.{stated, stated_or_true, stated_fault}
 
 -- the types of the program
 abbrev pub types_of : Basis → List TypeEntry

@@ -3,16 +3,15 @@
 ghost use Rattle.std.specs.Prelude.{◌≡◌, None, IfOk, IfErr, OnOk};
 ghost use Rattle.pale_tables.specs.Faults.{IsStop};
 ghost use Rattle.pale_fitting.specs.Declaring.{DeclarationsFit};
-ghost use Rattle.pale_types.specs.Framing.{IsFrame};
-ghost use Rattle.pale_types.specs.Stated.{stated_fault, stated_or_true};
+ghost use Rattle.pale_sights.specs.Framing.{IsFrame};
+ghost use Rattle.pale_sights.specs.Stated.{stated_fault, stated_or_true};
 ghost use Rattle.pale_types.specs.Statements.{keep_sight, parts_of, parts_fault};
 
 use crate::basis::Basis;
-use crate::sights::Frame;
-use crate::stated::read_optional;
-use crate::typed::CallParts;
+use crate::typed::{CallParts, Stmt};
 use pale_calls::{allow_touched, read_call};
 use pale_predicates::Declared;
+use pale_sights::{Frame, read_optional};
 use pale_syntax::Call;
 use pale_text::TextStop;
 use std::alloc::Global;
@@ -40,7 +39,7 @@ fn read_keep(
 
 /// A call: results, the procedure, arguments, logic arguments, and then the `keep`. The frame is in the end as it was.
 #[tactic(auto, unfolding(crate::specs::Statements::parts_of, crate::specs::Statements::parts_fault))]
-pub(crate) fn read_parts(
+fn read_parts(
     alloc: Global,
     basis: &Basis,
     frame: &mut Frame,
@@ -62,4 +61,22 @@ pub(crate) fn read_parts(
         logics: head.logics,
         keep,
     })
+}
+
+/// A statement that is a call. The frame is in the end as it was.
+pub(crate) fn read_called(
+    alloc: Global,
+    basis: &Basis,
+    frame: &mut Frame,
+    call: &Call,
+) -> Result<Stmt, TextStop>
+    requires declarations { DeclarationsFit basis.now.declared }
+    requires frame { IsFrame frame.old }
+    ensures met { OnOk result (parts_fault basis.now frame.old call.now ≡ None) }
+    ensures statement { IfOk result (λ made. made ≡ Stmt.Call call.now.place (parts_of basis.now frame.old call.now)) }
+    ensures frame { frame.new ≡ frame.old }
+    ensures stop { IfErr result (IsStop (parts_fault basis.now frame.old call.now)) }
+{
+    let parts = read_parts(alloc, basis, frame, call)?;
+    Ok(Stmt::Call(call.place, parts))
 }

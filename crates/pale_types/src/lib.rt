@@ -7,21 +7,16 @@
 
 mod basis;
 mod calls;
-mod formals;
 mod laws;
 mod procedures;
 mod program;
-mod sights;
-mod stated;
 mod statements;
 mod typed;
 mod typed_program;
-mod variables;
 
 pub use basis::Basis;
-pub use laws::{claims_with_actuals_put_in_fit, programs_without_fault_fit};
+pub use laws::programs_without_fault_fit;
+pub use pale_sights::{Frame, Heading, Variable, claims_with_actuals_put_in_fit};
 pub use program::check_types;
-pub use sights::{Frame, Heading};
 pub use typed::{CallParts, ProcEntry, Stmt, StmtList, TypedProc};
 pub use typed_program::Typed;
-pub use variables::Variable;

@@ -1,127 +1,26 @@
 //! Procedures.
 
-ghost use Rattle.std.specs.Prelude.{◌≡◌, [], None, not, map, IfOk, IfErr, OnOk};
+ghost use Rattle.std.specs.Prelude.{◌≡◌, None, map, IfOk, IfErr, OnOk};
 ghost use Rattle.pale_tables.specs.Faults.{IsStop, first_of};
 ghost use Rattle.pale_fitting.specs.Declaring.{DeclarationsFit};
-ghost use Rattle.pale_types.specs.Variables.{variables_fault};
-ghost use Rattle.pale_types.specs.Sights.{numbers, first_result, first_local, first_logic, heading_sight, frame_of};
-ghost use Rattle.pale_types.specs.Framing.{IsFrame, IsHeading};
-ghost use Rattle.pale_types.specs.Stated.{stated_or_true, stated_fault};
-ghost use Rattle.pale_types.specs.Statements.{types_of, typed_block, block_fault};
-ghost use Rattle.pale_types.specs.Procedures.{heading_of, locals_of, heading_names, heading_fault, frame_in, claims_fault, claims_of, lists_of, entry_of};
-ghost use Rattle.pale_types.specs.Procedures.{typed_procedure, procedure_fault};
+ghost use Rattle.pale_sights.specs.Sights.{frame_of};
+ghost use Rattle.pale_sights.specs.Framing.{IsBody, IsFrame};
+ghost use Rattle.pale_sights.specs.Headings.{heading_of, heading_names, heading_fault};
+ghost use Rattle.pale_types.specs.Statements.{types_of, block_fault};
+ghost use Rattle.pale_types.specs.Procedures.{entry_of, entry_with, typed_procedure, procedure_fault};
 
 use crate::basis::Basis;
-use crate::sights::{Frame, Heading, frame_of, heading_sight, numbers};
-use crate::stated::read_optional;
 use crate::statements::read_block;
 use crate::typed::{ProcEntry, TypedProc};
-use crate::variables::{Variable, read_logics, read_variables};
-use pale_syntax::{Bracketed, Procedure};
+use pale_sights::{
+    Claims, Frame, Heading, Lists, Variable, frame_of, lists_of, read_claims, read_heading,
+    read_variables,
+};
+use pale_syntax::Procedure;
 use pale_tables::Names;
 use pale_text::TextStop;
 use plain_data::Items;
-use std::alloc::{AllocError, Global};
-use store_core::TypeTable;
-use store_logic::{Assertion, VarList};
-
-/// `pre` and `post`.
-#[derive(Drop)]
-pub struct Claims {
-    pub pre: Assertion,
-    pub post: Assertion,
-}
-
-/// The numbers of a procedure's variables.
-#[derive(Drop)]
-pub struct Lists {
-    pub params: VarList,
-    pub results: VarList,
-    pub locals: VarList,
-    pub logics: VarList,
-}
-
-/// What a procedure declares before its body, and the names of all that.
-#[tactic(auto, unfolding(crate::specs::Procedures::heading_fault, crate::specs::Procedures::heading_of))]
-fn read_heading(
-    alloc: Global,
-    types: &TypeTable,
-    before: &mut Names,
-    procedure: &Procedure,
-) -> Result<Heading, TextStop>
-    requires { before.old ≡ [] }
-    ensures met { OnOk result (heading_fault types.now procedure.now ≡ None) }
-    ensures heading { IfOk result (λ heading. heading ≡ heading_of types.now procedure.now) }
-    ensures names { OnOk result (before.new ≡ heading_names procedure.now) }
-    ensures stop { IfErr result (IsStop (heading_fault types.now procedure.now)) }
-{
-    let params = read_variables(alloc, types, before, procedure.parameters.as_slice())?;
-    let results = read_variables(alloc, types, before, procedure.results.as_slice())?;
-    let logics = read_logics(alloc, types, before, procedure.logics.as_slice())?;
-    Ok(Heading {
-        params,
-        results,
-        logics,
-        locals: procedure.locals.len(),
-    })
-}
-
-/// `pre`, which may name parameters, or `post`, which may name results.
-fn read_claim(
-    alloc: Global,
-    basis: &Basis,
-    heading: &Heading,
-    is_pre: bool,
-    bracketed: &Option<Bracketed>,
-) -> Result<Assertion, TextStop>
-    requires declarations { DeclarationsFit basis.now.declared }
-    requires heading { IsHeading heading.now }
-    ensures met { OnOk result (stated_fault basis.now.declared (heading_sight is_pre (not is_pre) heading.now) bracketed.now ≡ None) }
-    ensures claim { IfOk result (λ made. made ≡ stated_or_true basis.now.declared (heading_sight is_pre (not is_pre) heading.now) bracketed.now) }
-    ensures stop { IfErr result (IsStop (stated_fault basis.now.declared (heading_sight is_pre (not is_pre) heading.now) bracketed.now)) }
-{
-    let mut sight = heading_sight(alloc, heading, is_pre, !is_pre)?;
-    read_optional(alloc, &basis.declared, &mut sight, bracketed)
-}
-
-/// `pre` and `post`, which may be left out.
-#[tactic(auto, unfolding(crate::specs::Procedures::claims_fault))]
-fn read_claims(
-    alloc: Global,
-    basis: &Basis,
-    heading: &Heading,
-    procedure: &Procedure,
-) -> Result<Claims, TextStop>
-    requires declarations { DeclarationsFit basis.now.declared }
-    requires heading { IsHeading heading.now }
-    ensures met { OnOk result (claims_fault basis.now.declared heading.now procedure.now ≡ None) }
-    ensures claims { IfOk result (λ claims. claims ≡ claims_of basis.now.declared heading.now procedure.now) }
-    ensures stop { IfErr result (IsStop (claims_fault basis.now.declared heading.now procedure.now)) }
-{
-    let pre = read_claim(alloc, basis, heading, true, &procedure.pre)?;
-    let post = read_claim(alloc, basis, heading, false, &procedure.post)?;
-    Ok(Claims { pre, post })
-}
-
-/// The numbers of the variables, where the body has these locals.
-fn lists_of(alloc: Global, heading: &Heading, locals: &[Variable]) -> Result<Lists, AllocError>
-    ensures { IfOk result (λ lists. lists ≡ lists_of heading.now locals.now) }
-{
-    let (Some(first_local), Some(first_logic)) = (heading.first_local(), heading.first_logic())
-    else {
-        return Err(AllocError);
-    };
-    let params = numbers(alloc, 0, heading.params.as_slice())?;
-    let results = numbers(alloc, heading.params.len(), heading.results.as_slice())?;
-    let locals = numbers(alloc, first_local, locals)?;
-    let logics = numbers(alloc, first_logic, heading.logics.as_slice())?;
-    Ok(Lists {
-        params,
-        results,
-        locals,
-        logics,
-    })
-}
+use std::alloc::Global;
 
 /// The statements, where the body has these locals.
 #[tactic(auto, unfolding(crate::specs::Procedures::typed_procedure))]
@@ -160,8 +59,51 @@ fn read_body(
     })
 }
 
+/// A procedure with this heading, these claims and these locals: its statements.
+fn read_entry(
+    alloc: Global,
+    basis: &Basis,
+    heading: &Heading,
+    locals: &[Variable],
+    claims: Claims,
+    procedure: &Procedure,
+) -> Result<ProcEntry, TextStop>
+    requires declarations { DeclarationsFit basis.now.declared }
+    requires names { IsBody heading.now locals.now }
+    requires frame { IsFrame (frame_of heading.now locals.now) }
+    ensures met { OnOk result (block_fault basis.now (frame_of heading.now locals.now) procedure.now.body ≡ None) }
+    ensures entry { IfOk result (λ entry. entry ≡ entry_with basis.now heading.now locals.now claims procedure.now) }
+    ensures stop { IfErr result (IsStop (block_fault basis.now (frame_of heading.now locals.now) procedure.now.body)) }
+{
+    let frame = frame_of(alloc, heading, locals)?;
+    let lists = lists_of(alloc, heading, locals)?;
+    read_body(alloc, basis, lists, claims, frame, procedure)
+}
+
+/// A procedure whose heading has no fault and declares these names: its claims, its locals and its statements.
+fn read_under(
+    alloc: Global,
+    basis: &Basis,
+    before: &mut Names,
+    heading: &Heading,
+    procedure: &Procedure,
+) -> Result<ProcEntry, TextStop>
+    requires declarations { DeclarationsFit basis.now.declared }
+    requires met { heading_fault (types_of basis.now) procedure.now ≡ None }
+    requires heading { heading.now ≡ heading_of (types_of basis.now) procedure.now }
+    requires names { before.old ≡ heading_names procedure.now }
+    ensures met { OnOk result (procedure_fault basis.now procedure.now ≡ None) }
+    ensures entry { IfOk result (λ entry. entry ≡ typed_procedure basis.now procedure.now) }
+    ensures stop { IfErr result (IsStop (procedure_fault basis.now procedure.now)) }
+{
+    let types = &basis.declared.vocabulary.types;
+    let claims = read_claims(alloc, &basis.declared, heading, procedure)?;
+    let locals = read_variables(alloc, types, before, procedure.locals.as_slice())?;
+    read_entry(alloc, basis, heading, locals.as_slice(), claims, procedure)
+}
+
 /// A procedure with its names looked up and predicates put in.
-#[tactic(auto, unfolding(crate::specs::Procedures::procedure_fault, crate::specs::Procedures::typed_procedure))]
+#[tactic(auto, unfolding(crate::specs::Procedures::procedure_fault))]
 fn read_procedure(
     alloc: Global,
     basis: &Basis,
@@ -175,11 +117,7 @@ fn read_procedure(
     let types = &basis.declared.vocabulary.types;
     let mut before = Names::new(alloc);
     let heading = read_heading(alloc, types, &mut before, procedure)?;
-    let claims = read_claims(alloc, basis, &heading, procedure)?;
-    let locals = read_variables(alloc, types, &mut before, procedure.locals.as_slice())?;
-    let frame = frame_of(alloc, &heading, locals.as_slice())?;
-    let lists = lists_of(alloc, &heading, locals.as_slice())?;
-    read_body(alloc, basis, lists, claims, frame, procedure)
+    read_under(alloc, basis, &mut before, &heading, procedure)
 }
 
 /// The procedures in order.

@@ -12,12 +12,12 @@ ghost use Rattle.pale_types.specs.Programs.{names_fault, declarations_fault, lis
 ghost use Rattle.pale_types.specs.Fitting.{ProgramFits};
 
 use crate::basis::Basis;
-use crate::formals::signatures_of;
 use crate::procedures::read_procedures;
 use crate::typed_program::Typed;
 use pale_predicates::{Declared, check_predicate_names, read_predicates};
+use pale_sights::signatures_of;
 use pale_syntax::{Declaration, Name, PredicateDeclaration, Procedure, Program, TypeDeclaration};
-use pale_tables::{Names, check_type_names, read_names, read_table};
+use pale_tables::{Names, TypeNames, check_type_names, read_names, read_table};
 use pale_text::{Refusal, RefusalKind, TextStop};
 use std::alloc::{AllocError, Global};
 
@@ -75,8 +75,26 @@ fn check_procedure_names(alloc: Global, procedures: &[&Procedure]) -> Result<(),
     Ok(())
 }
 
-/// What a program declares besides its procedures, whose names have no fault.
+/// What a program declares besides its procedures, where its types declare these names.
 #[tactic(auto, unfolding(crate::specs::Programs::declarations_fault))]
+fn read_over(
+    alloc: Global,
+    names: TypeNames,
+    types: &[&TypeDeclaration],
+    predicates: &[&PredicateDeclaration],
+) -> Result<Declared, TextStop>
+    requires names { names ≡ names_in (map (λ t. t.now) types.now) }
+    requires types { type_names_fault [] (map (λ t. t.now.name) types.now) ≡ None }
+    requires predicates { repeated_fault [] (map (λ p. p.now.name) predicates.now) ≡ None }
+    ensures met { OnOk result (declarations_fault (map (λ t. t.now) types.now) (map (λ p. p.now) predicates.now) ≡ None) }
+    ensures declared { IfOk result (λ declared. declared ≡ declared_in (map (λ t. t.now) types.now) (map (λ p. p.now) predicates.now)) }
+    ensures stop { IfErr result (IsStop (declarations_fault (map (λ t. t.now) types.now) (map (λ p. p.now) predicates.now))) }
+{
+    let table = read_table(alloc, &names, types)?;
+    read_predicates(alloc, table, names, predicates)
+}
+
+/// What a program declares besides its procedures, whose names have no fault.
 fn read_declared(
     alloc: Global,
     types: &[&TypeDeclaration],
@@ -89,8 +107,7 @@ fn read_declared(
     ensures stop { IfErr result (IsStop (declarations_fault (map (λ t. t.now) types.now) (map (λ p. p.now) predicates.now))) }
 {
     let names = read_names(alloc, types)?;
-    let table = read_table(alloc, &names, types)?;
-    read_predicates(alloc, table, names, predicates)
+    read_over(alloc, names, types, predicates)
 }
 
 /// Looks at the names that a program declares.

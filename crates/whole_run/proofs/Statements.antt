@@ -24,7 +24,7 @@ use Rattle.pale_types.specs.declared.typed.Stmt.TheVariants as stmt
 use Rattle.pale_types.specs.declared.typed.Stmt.TheOpen.{Stmt-F}
 use Rattle.pale_types.specs.declared.typed.Stmt.TheFolds.{map-Stmt, fold-roll-Stmt}
 use Rattle.pale_types.specs.declared.basis.Basis.{Basis}
-use Rattle.pale_types.specs.declared.sights.Frame.{Frame}
+use Rattle.pale_sights.specs.declared.sights.Frame.{Frame}
 use Rattle.pale_types.specs.Statements.{typing_rules, typed_statement, typed_block}
 use Rattle.pale_types.proofs.StatementLemmas.{typed_form}
 use Rattle.whole_run.specs.Places.{places_in, cut_places}

@@ -1,0 +1,11 @@
+pub mod DistinctLemmas
+pub mod VariableLemmas
+pub mod SightLemmas
+pub mod KeepLemmas
+pub mod HeadingLemmas
+pub mod FittingNamesLemmas
+pub mod FittingKeepLemmas
+pub mod FittingSightLemmas
+pub mod FittingCallsLemmas
+pub mod FittingPutLemmas
+pub mod FittingRouteLemmas

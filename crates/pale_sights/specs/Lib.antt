@@ -1,0 +1,7 @@
+pub mod Variables
+pub mod Formals
+pub mod Sights
+pub mod Framing
+pub mod Stated
+pub mod Headings
+pub mod Fitting
