@@ -154,6 +154,10 @@ with_binding one parts = record parts { bindings = begun one ∷ parts.bindings 
 abbrev pub also_binding : Binding → SourceName → Binding
 also_binding one name = record one { names = one.names ++ name ∷ [] }
 
+-- one name more of the quantifier that began last
+abbrev pub with_bound : SourceName → Parts → Parts
+with_bound name parts = record parts { bindings = also_binding (top bindingless parts.bindings) name ∷ rest parts.bindings }
+
 abbrev pub quantified : Binding → SourceFormula → SourceFormula
 quantified one body = formula.Quantified one.quantifier one.names body
 
@@ -167,8 +171,7 @@ after_connective BeginEx1 last parts = with_binding quantifier.Ex1 parts
 after_connective BeginAll1 last parts = with_binding quantifier.All1 parts
 after_connective BeginEx2 last parts = with_binding quantifier.Ex2 parts
 after_connective BeginAll2 last parts = with_binding quantifier.All2 parts
-after_connective AddBound last parts =
-    record parts { bindings = also_binding (top bindingless parts.bindings) (name_of last) ∷ rest parts.bindings }
+after_connective AddBound last parts = with_bound (name_of last) parts
 after_connective MakeQuantified last parts =
     record parts {
       formulas = quantified (top bindingless parts.bindings) (top formulaless parts.formulas) ∷ rest parts.formulas;

@@ -2,7 +2,8 @@
 
 ghost use Rattle.std.specs.Prelude.{◌≡◌, [], ◌∷◌, IfOk, OnOk};
 ghost use Rattle.std.specs.Option.{option_copied};
-ghost use Rattle.ws2s_parse.specs.Making.{after_connective, both, either, equivalent, with_binding};
+ghost use Rattle.ws2s_parse.specs.MakingParts.{name_of};
+ghost use Rattle.ws2s_parse.specs.Making.{after_connective, both, either, equivalent, quantified, with_binding, with_bound};
 ghost use Rattle.ws2s_parse.specs.Building.{parts_of};
 
 use super::binding::Binding;
@@ -80,6 +81,30 @@ fn equivalent(
     }
 }
 
+fn implication(
+    alloc: Global,
+    one: SourceFormula,
+    other: SourceFormula,
+) -> Result<SourceFormula, AllocError>
+    ensures { IfOk result (λ formula. formula ≡ SourceFormula.Implies one other) }
+{
+    let one = Boxed::new(alloc, one)?;
+    Ok(SourceFormula::Implies(one, Boxed::new(alloc, other)?))
+}
+
+/// What the quantifier's names are bound in.
+fn quantify(
+    alloc: Global,
+    binding: Binding,
+    body: SourceFormula,
+) -> Result<SourceFormula, AllocError>
+    ensures { IfOk result (λ formula. formula ≡ quantified binding body) }
+{
+    let Binding { quantifier, names } = binding;
+    let body = Boxed::new(alloc, body)?;
+    Ok(SourceFormula::Quantified(quantifier, names, body))
+}
+
 impl Parts {
     pub fn perform_connective(
         &mut self,
@@ -95,9 +120,9 @@ impl Parts {
                 self.formulas.push(equivalent(self.alloc, one, other)?)
             }
             ConnectiveAct::MakeImplies => {
-                let other = Boxed::new(self.alloc, take_formula(&mut self.formulas))?;
-                let one = Boxed::new(self.alloc, take_formula(&mut self.formulas))?;
-                self.formulas.push(SourceFormula::Implies(one, other))
+                let other = take_formula(&mut self.formulas);
+                let one = take_formula(&mut self.formulas);
+                self.formulas.push(implication(self.alloc, one, other)?)
             }
             ConnectiveAct::JoinOr => {
                 let other = take_formula(&mut self.formulas);
@@ -117,16 +142,11 @@ impl Parts {
             ConnectiveAct::BeginAll1 => self.begin(Quantifier::All1),
             ConnectiveAct::BeginEx2 => self.begin(Quantifier::Ex2),
             ConnectiveAct::BeginAll2 => self.begin(Quantifier::All2),
-            ConnectiveAct::AddBound => {
-                let mut binding = take_binding(self.alloc, &mut self.bindings);
-                binding.names.push(name_of(self.alloc, last)?)?;
-                self.bindings.push(binding)
-            }
+            ConnectiveAct::AddBound => self.add_bound(last),
             ConnectiveAct::MakeQuantified => {
-                let Binding { quantifier, names } = take_binding(self.alloc, &mut self.bindings);
-                let body = Boxed::new(self.alloc, take_formula(&mut self.formulas))?;
-                self.formulas
-                    .push(SourceFormula::Quantified(quantifier, names, body))
+                let binding = take_binding(self.alloc, &mut self.bindings);
+                let body = take_formula(&mut self.formulas);
+                self.formulas.push(quantify(self.alloc, binding, body)?)
             }
         }
     }
@@ -137,5 +157,14 @@ impl Parts {
     {
         let names = Items::new(self.alloc);
         self.bindings.push(Binding { quantifier, names })
+    }
+
+    /// One name more of the quantifier that began last.
+    fn add_bound(&mut self, last: Option<&Token>) -> Result<(), AllocError>
+        ensures { OnOk result (parts_of self.new ≡ with_bound (name_of (option_copied last.entry)) (parts_of self.old)) }
+    {
+        let mut binding = take_binding(self.alloc, &mut self.bindings);
+        binding.names.push(name_of(self.alloc, last)?)?;
+        self.bindings.push(binding)
     }
 }
