@@ -1,7 +1,7 @@
 //! Whether a pointer field is functional.
 
 ghost use Rattle.std.specs.Prelude.{◌≡◌, ◌<◌, ℕ, [], Ok, IfOk};
-ghost use Rattle.bdd_nodes.specs.Shelf.{IsShelf, limit_of};
+ghost use Rattle.bdd_nodes.specs.Shelf.{limit_of};
 ghost use Rattle.store_core.specs.Tables.{IsTypeTable};
 ghost use Rattle.gta_keep.specs.Holding.{HasNoTables};
 ghost use Rattle.field_judge.specs.declared.judging.FieldJudged.{FieldJudged};
@@ -60,7 +60,6 @@ fn judge_laid_out(
     passes: &PassList,
     shelf: &mut Shelf,
 ) -> Result<FieldJudged, AllocError>
-    requires table { IsTypeTable l.now.types }
     requires vars { l.now.vars ≡ type_vars l.now.types }
     requires spares { l.now.spares ≡ [] }
     requires tables { HasNoTables shelf.old }
@@ -68,10 +67,7 @@ fn judge_laid_out(
     ensures limit { result ≡ Ok FieldJudged.Limit → (p : ℕ) → HasFieldPeak l.now.types f p → limit_of shelf.old < p }
     ensures tables { HasNoTables shelf.new }
     ensures same_limit { limit_of shelf.new ≡ limit_of shelf.old }
-    ensures shelf { IsShelf shelf.new }
 {
-    // Only for its clause `shelf`.
-    let _ = shelf.count();
     let guide = l.guide(alloc)?;
     let tracks = weighed(alloc, l)?;
     let formula = field_formula(alloc, l, f)?;
@@ -112,11 +108,7 @@ pub fn judge_field(
     // What the call leaves, whatever it answers.
     ensures tables { HasNoTables shelf.new }
     ensures same_limit { limit_of shelf.new ≡ limit_of shelf.old }
-    ensures shelf { IsShelf shelf.new }
 {
-    // Only for their clauses `shelf` and `inside`.
-    let _ = shelf.count();
-    let _ = types.types();
     let vars = one_each(alloc, types)?;
     let l = Layout::new(alloc, types, &vars, &VariantList::new(alloc))?;
     judge_laid_out(alloc, &l, f, passes, shelf)

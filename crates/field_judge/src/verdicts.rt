@@ -1,7 +1,7 @@
 //! Verdicts on formulas that passes make easier.
 
 ghost use Rattle.std.specs.Prelude.{◌≡◌, ◌<◌, ℕ, Ok, IfOk};
-ghost use Rattle.bdd_nodes.specs.Shelf.{IsShelf, limit_of};
+ghost use Rattle.bdd_nodes.specs.Shelf.{limit_of};
 ghost use Rattle.gta_keep.specs.Holding.{HasNoTables};
 ghost use Rattle.ws2s_theory.specs.Peaks.{HasPeak};
 ghost use Rattle.ws2s_decide.specs.declared.verdict.Verdict.{Verdict};
@@ -32,10 +32,7 @@ pub(crate) fn verdict_on(
     ensures limit { result ≡ Ok Verdict.Limit → (p : ℕ) → HasPeak guide.now formula.now p → limit_of shelf.old < p }
     ensures tables { HasNoTables shelf.new }
     ensures same_limit { limit_of shelf.new ≡ limit_of shelf.old }
-    ensures shelf { IsShelf shelf.new }
 {
-    // Only for its clause `shelf`.
-    let _ = shelf.count();
     let easier = apply(alloc, passes, formula)?;
     match decide(alloc, &easier, guide, tracks, shelf)? {
         Verdict::None => Ok(Verdict::None),

@@ -1,6 +1,7 @@
 //! The tracks that are weighed.
 
 ghost use Rattle.std.specs.Prelude.{◌≡◌, Some, IfOk, OnOk};
+ghost use Rattle.store_core.specs.Tables.{IsTypeTable};
 ghost use Rattle.routing_expr.specs.Gathering.{Gathers, HasAll};
 ghost use Rattle.field_judge.specs.Weighed.{IsTrackOf, IsVariantTrack};
 
@@ -36,7 +37,8 @@ fn push_tracks(tracks: &mut TrackList, l: &Layout<'_>, ty: TypeId) -> Result<(),
 ///
 /// Want of memory.
 pub fn weighed(alloc: Global, l: &Layout<'_>) -> Result<TrackList, AllocError>
-    ensures { IfOk result (λ tracks. HasAll tracks (IsVariantTrack l.now.types)) }
+    ensures value { IfOk result (λ tracks. HasAll tracks (IsVariantTrack l.now.types)) }
+    ensures inside { IsTypeTable l.now.types }
 {
     let mut tracks = TrackList::new(alloc);
     for index in 0..l.types().types() {

@@ -1,11 +1,12 @@
 -- On automata that stand in a shelf: what releasing, registering, making nodes and collecting leave of them.
 use Rattle.std.proofs.Common.{◌≡◌, ◌≢◌, ℕ, ◌+◌, ◌≤◌, ◌==◌, ◌⊎◌, inl, inr, if◌then◌else◌, is_some, Bool, true, false, List, [], ◌∷◌, ◌++◌, Option, Some, None}
 use Rattle.std.proofs.Common.{IsSome, Contains, option_map, option_and_then, slice_get, zero, suc, length, refl, sym, ◌∙◌, ap, subst, arith}
+use mathlib.Core.Bool.{true≢false}
 use mathlib.Core.Path.{fun_ext}
 use Rattle.std.proofs.lemmas.Bool.{eq-eqb}
 use Rattle.std.proofs.lemmas.Bool.Decides.{eqb_tells}
 use Rattle.bdd_nodes.specs.declared.node_ref.NodeRef.{NodeRef}
-use Rattle.bdd_nodes.specs.Shelf.{Contents, IsShelf, roots_of, root_of, state_of}
+use Rattle.bdd_nodes.specs.Shelf.{Contents, IsShelf, roots_of, root_of, state_of, empty_shelf}
 use Rattle.bdd_nodes.specs.Changes.{Keeps, SameTables, DropsTable, MovesRoots}
 use Rattle.bdd_nodes.specs.Roots.{Registered, roots_under, root_under}
 use Rattle.bdd_nodes.proofs.UnderLemmas.{roots_of-unused}
@@ -14,7 +15,14 @@ use Rattle.gta_theory.specs.Guides.{Spaces}
 use Rattle.gta_core.specs.Auto.{AutoView, IsAuto}
 use Rattle.gta_core.specs.Changes.{KeepsTable, RegistersTable}
 use Rattle.gta_core.proofs.AutoLemmas.{functions-same, KeepsTable-grown, KeepsTable-moved, IsAuto-kept}
-use Rattle.gta_keep.specs.Holding.{times, registered, Holds}
+use Rattle.gta_keep.specs.Holding.{times, registered, Holds, HasNoTables}
+
+-- a shelf has no table where it was opened
+pub opened_has_no_tables : (limit : ℕ) (shelf : Contents) → IsShelf shelf → shelf ≡ empty_shelf limit → HasNoTables shelf
+opened_has_no_tables limit shelf is_shelf empty = record {
+  is_shelf = is_shelf;
+  none = λ table some. true≢false (sym (subst (λ (opened : Contents). IsSome (roots_of opened table)) empty some));
+}
 
 -- how often a table comes in two lists together
 pub times-append : (xs ys : List AutoView) (t : ℕ) → times (xs ++ ys) t ≡ times xs t + times ys t

@@ -27,9 +27,12 @@ pub record Holds (g : Spaces) (shelf : Contents) (autos : List AutoView) : Type 
   pub each : (a : AutoView) → Contains autos a → IsAuto g shelf a
   pub tables : (table : ℕ) → times autos table ≡ registered shelf table
 
--- no table is registered
-abbrev pub HasNoTables : Contents → Type 0
-HasNoTables shelf = (table : ℕ) → IsSome (roots_of shelf table) → ⊥
+-- a shelf that has no table
+pub record HasNoTables (shelf : Contents) : Type 0 where
+  -- it is a shelf
+  pub is_shelf : IsShelf shelf
+  -- no number has a table
+  pub none : (table : ℕ) → IsSome (roots_of shelf table) → ⊥
 
 -- the automaton is a minimal one of the formula
 abbrev pub IsMinimalFor : Spaces → Contents → AutoView → Formula → Type 0

@@ -80,8 +80,6 @@ impl Kept {
         ensures ok { IfOk result (λ found. (g : Spaces) → Passes g shelf.old shelf.new [] (as_list found) self.old self.new) }
         ensures err { OnErr result ((g : Spaces) → Passes g shelf.old shelf.new [] [] self.old self.new) }
     {
-        // Only for its clause `shelf`.
-        let _ = shelf.count();
         let copy = match self.automata.peek(&id) {
             Some(kept) => kept.copy(alloc, shelf)?,
             None => return Ok(None),

@@ -1,7 +1,7 @@
 //! The report of a pointer field.
 
 ghost use Rattle.std.specs.Prelude.{◌≡◌, IfOk};
-ghost use Rattle.bdd_nodes.specs.Shelf.{IsShelf, limit_of};
+ghost use Rattle.bdd_nodes.specs.Shelf.{limit_of};
 ghost use Rattle.gta_keep.specs.Holding.{HasNoTables};
 ghost use Rattle.program_judge.specs.Reports.{ReportsField};
 
@@ -30,7 +30,6 @@ pub fn field_report(
     ensures report { IfOk result (λ report. ReportsField (limit_of shelf.old) types.now f report.0.items report.1) }
     ensures tables { HasNoTables shelf.new }
     ensures same_limit { limit_of shelf.new ≡ limit_of shelf.old }
-    ensures shelf { IsShelf shelf.new }
 {
     let mut text = Vec::new(alloc);
     match judge_field(alloc, types, f, passes, shelf)? {

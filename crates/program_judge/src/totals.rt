@@ -1,6 +1,7 @@
 //! The totals of triples.
 
-ghost use Rattle.std.specs.Prelude.{◌≡◌, count_by, IfOk};
+ghost use Rattle.std.specs.Prelude.{◌≡◌, ◌++◌, count_by, IfOk, OnOk};
+ghost use Rattle.std.specs.Fmt.{decimal};
 ghost use Rattle.program_judge.specs.Reports as reports;
 
 use crate::TripleWay;
@@ -34,19 +35,28 @@ pub fn limit_count(ways: &[TripleWay]) -> usize
         .count()
 }
 
+/// The word and the number behind it.
+fn push_count(
+    alloc: Global,
+    text: &mut Vec<u8>,
+    word: &[u8],
+    count: usize,
+) -> Result<(), AllocError>
+    ensures { OnOk result (text.new.items ≡ text.old.items ++ (word.now ++ decimal count)) }
+{
+    text.extend_from_slice(word)?;
+    push_number(alloc, text, count as u64)
+}
+
 /// `triples T valid V invalid I limit X`
 pub fn totals_text(alloc: Global, ways: &[TripleWay]) -> Result<Vec<u8>, AllocError>
     ensures { IfOk result (λ text. text.items ≡ reports.totals_of ways.now) }
 {
     let mut text = Vec::new(alloc);
-    text.extend_from_slice(b"triples ")?;
-    push_number(alloc, &mut text, ways.len() as u64)?;
-    text.extend_from_slice(b" valid ")?;
-    push_number(alloc, &mut text, valid_count(ways) as u64)?;
-    text.extend_from_slice(b" invalid ")?;
-    push_number(alloc, &mut text, invalid_count(ways) as u64)?;
-    text.extend_from_slice(b" limit ")?;
-    push_number(alloc, &mut text, limit_count(ways) as u64)?;
+    push_count(alloc, &mut text, b"triples ", ways.len())?;
+    push_count(alloc, &mut text, b" valid ", valid_count(ways))?;
+    push_count(alloc, &mut text, b" invalid ", invalid_count(ways))?;
+    push_count(alloc, &mut text, b" limit ", limit_count(ways))?;
     text.extend_from_slice(b"\n")?;
     Ok(text)
 }

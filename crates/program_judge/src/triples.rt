@@ -1,7 +1,7 @@
 //! The report of a triple.
 
 ghost use Rattle.std.specs.Prelude.{◌≡◌, IfOk};
-ghost use Rattle.bdd_nodes.specs.Shelf.{IsShelf, limit_of};
+ghost use Rattle.bdd_nodes.specs.Shelf.{limit_of};
 ghost use Rattle.gta_keep.specs.Holding.{HasNoTables};
 ghost use Rattle.witness_store.specs.Alike.{AreFunctional};
 ghost use Rattle.pale_types.specs.Fitting.{ProgramFits};
@@ -39,10 +39,7 @@ pub fn triple_report(
     ensures report { IfOk result (λ report. ReportsTriple (limit_of shelf.old) typed.now number t.now report.0.items report.1) }
     ensures tables { HasNoTables shelf.new }
     ensures same_limit { limit_of shelf.new ≡ limit_of shelf.old }
-    ensures shelf { IsShelf shelf.new }
 {
-    // Only for its clause `shelf`.
-    let _ = shelf.count();
     let types = typed.types();
     let Some(vars) = typed.vars(t.proc) else {
         unreachable!()

@@ -3,7 +3,7 @@ use Rattle.std.proofs.Common.{◌≡◌, ◌⊎◌, inl, inr, ◌+◌, ◌<◌, 
 use Rattle.std.proofs.lemmas.Bool.{cases_lt, false≢true}
 use Rattle.std.proofs.lemmas.Bool.Decides.{nat_tests}
 use Rattle.std.proofs.lemmas.Option.{same_Some}
-use Rattle.bdd_nodes.specs.Shelf.{Contents, IsShelf, limit_of}
+use Rattle.bdd_nodes.specs.Shelf.{Contents, limit_of}
 use Rattle.gta_theory.specs.Assignments.{Assignment, Covers}
 use Rattle.gta_theory.specs.Guides.{Spaces}
 use Rattle.gta_theory.specs.Weights.{weight}
@@ -134,20 +134,18 @@ pub record GoesOn (formulas : ℕ → Option Formula) (tracks : List Track) (fir
   pub kept : HasKept shelf decider
   pub guide : guide_of decider ≡ guide_of first
   pub same_limit : limit_of shelf ≡ limit_of first_shelf
-  pub is_shelf : IsShelf shelf
 
 not-limit : {X : Type 0} → searched.Nothing ≡ searched.Limit → X
 not-limit e = absurd (cc)
 
-pub going-start : (formulas : ℕ → Option Formula) (tracks : List Track) (shelf : Contents) (decider : Decider) → HasKept shelf decider → IsShelf shelf →
+pub going-start : (formulas : ℕ → Option Formula) (tracks : List Track) (shelf : Contents) (decider : Decider) → HasKept shelf decider →
     GoesOn formulas tracks shelf decider 0 searched.Nothing shelf decider
-going-start formulas tracks shelf decider kept is_shelf = record {
+going-start formulas tracks shelf decider kept = record {
   known = nothing-yet formulas tracks;
   at_limit = λ e. not-limit e;
   kept = kept;
   guide = refl;
   same_limit = refl;
-  is_shelf = is_shelf;
 }
 
 pub going-next : (formulas : ℕ → Option Formula) (tracks : List Track) (first_shelf : Contents) (first : Decider) (n : ℕ) (s after : Searched)
@@ -156,9 +154,9 @@ pub going-next : (formulas : ℕ → Option Formula) (tracks : List Track) (firs
     (v ≡ verdict.Limit → (p : ℕ) → ArePeaksWithin (guide_of decider) formulas p → limit_of shelf < p) →
     (IsSearched formulas tracks n s → IsVerdictAt formulas tracks n v → IsSearched formulas tracks (n + 1) after) →
     (after ≡ searched.Limit → (s ≡ searched.Limit) ⊎ (v ≡ verdict.Limit)) →
-    HasKept new_shelf new_decider → guide_of new_decider ≡ guide_of decider → limit_of new_shelf ≡ limit_of shelf → IsShelf new_shelf →
+    HasKept new_shelf new_decider → guide_of new_decider ≡ guide_of decider → limit_of new_shelf ≡ limit_of shelf →
     GoesOn formulas tracks first_shelf first (n + 1) after new_shelf new_decider
-going-next formulas tracks first_shelf first n s after v shelf new_shelf decider new_decider before told licensed more why kept guide same_limit is_shelf =
+going-next formulas tracks first_shelf first n s after v shelf new_shelf decider new_decider before told licensed more why kept guide same_limit =
     record {
       known = more before.known told;
       at_limit = λ is p peaks. elim (why is) [
@@ -168,7 +166,6 @@ going-next formulas tracks first_shelf first n s after v shelf new_shelf decider
       kept = kept;
       guide = guide ∙ before.guide;
       same_limit = same_limit ∙ before.same_limit;
-      is_shelf = is_shelf;
     }
 
 pub Ok-same : {A E : Type 0} (a b : A) → ◌≡◌ {A = Result A E} (Ok a) (Ok b) → a ≡ b

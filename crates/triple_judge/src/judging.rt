@@ -1,7 +1,7 @@
 //! Whether a triple is valid.
 
 ghost use Rattle.std.specs.Prelude.{◌≡◌, ◌<◌, ℕ, length, Ok, IfOk};
-ghost use Rattle.bdd_nodes.specs.Shelf.{IsShelf, limit_of};
+ghost use Rattle.bdd_nodes.specs.Shelf.{limit_of};
 ghost use Rattle.gta_keep.specs.Holding.{HasNoTables};
 ghost use Rattle.store_core.specs.Tables.{IsTypeTable};
 ghost use Rattle.store_logic.specs.Fits.{KnowsVars};
@@ -77,7 +77,6 @@ fn judge_laid_out(
     passes: &PassList,
     shelf: &mut Shelf,
 ) -> Result<Judged, AllocError>
-    requires table { IsTypeTable l.now.types }
     requires triple { CanBeJudged l.now.types l.now.vars t.now }
     requires spares { l.now.spares ≡ cells.spares_of t.now }
     requires tables { HasNoTables shelf.old }
@@ -85,10 +84,7 @@ fn judge_laid_out(
     ensures limit { result ≡ Ok Judged.Limit → (p : ℕ) → HasTriplePeak l.now.types l.now.vars t.now p → limit_of shelf.old < p }
     ensures tables { HasNoTables shelf.new }
     ensures same_limit { limit_of shelf.new ≡ limit_of shelf.old }
-    ensures shelf { IsShelf shelf.new }
 {
-    // Only for its clause `shelf`.
-    let _ = shelf.count();
     let tracks = weighed(alloc, l)?;
     let count = site_count(alloc, l, t)?;
     match decide_sites(alloc, l, t, count, passes, &tracks, shelf)? {
@@ -132,11 +128,7 @@ pub fn judge(
     // What the call leaves, whatever it answers.
     ensures tables { HasNoTables shelf.new }
     ensures same_limit { limit_of shelf.new ≡ limit_of shelf.old }
-    ensures shelf { IsShelf shelf.new }
 {
-    // Only for their clauses `shelf` and `inside`.
-    let _ = shelf.count();
-    let _ = types.types();
     let spares = spares_of(alloc, t)?;
     let l = Layout::new(alloc, types, vars, &spares)?;
     judge_laid_out(alloc, &l, t, passes, shelf)

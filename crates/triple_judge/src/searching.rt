@@ -1,7 +1,7 @@
 //! The lightest tree that satisfies the formula of a site.
 
 ghost use Rattle.std.specs.Prelude.{◌≡◌, ◌⊎◌, ◌<◌, ◌≤◌, ◌+◌, ℕ, List, Option, Ok, IfOk};
-ghost use Rattle.bdd_nodes.specs.Shelf.{IsShelf, limit_of};
+ghost use Rattle.bdd_nodes.specs.Shelf.{limit_of};
 ghost use Rattle.gta_keep.specs.Holding.{HasNoTables};
 ghost use Rattle.ws2s_core.specs.declared.track.Track.{Track};
 ghost use Rattle.ws2s_core.specs.declared.formula.Formula.{Formula};
@@ -109,10 +109,7 @@ fn decide_in_order(
         ArePeaksWithin (guide_of decider.old) (site_formula l.now.types l.now.vars t.now) p → limit_of shelf.old < p }
     ensures kept { HasKept shelf.new decider.new }
     ensures same_limit { limit_of shelf.new ≡ limit_of shelf.old }
-    ensures shelf { IsShelf shelf.new }
 {
-    // Only for its clause `shelf`.
-    let _ = shelf.count();
     let mut searched = Searched::Nothing;
     for site in 0..count {
         if is_settled(&searched) {
@@ -145,10 +142,7 @@ pub(crate) fn decide_sites(
         ArePeaksWithin (spaces.guide_of l.now.types l.now.vars l.now.spares) (site_formula l.now.types l.now.vars t.now) p → limit_of shelf.old < p }
     ensures tables { HasNoTables shelf.new }
     ensures same_limit { limit_of shelf.new ≡ limit_of shelf.old }
-    ensures shelf { IsShelf shelf.new }
 {
-    // Only for its clause `shelf`.
-    let _ = shelf.count();
     let guide = l.guide(alloc)?;
     let mut decider = Decider::new(alloc, guide)?;
     let searched = decide_in_order(alloc, l, t, count, passes, tracks, &mut decider, shelf);

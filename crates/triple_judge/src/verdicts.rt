@@ -1,7 +1,7 @@
 //! Verdicts on the formulas of sites.
 
 ghost use Rattle.std.specs.Prelude.{◌≡◌, ◌<◌, ℕ, Ok, IfOk};
-ghost use Rattle.bdd_nodes.specs.Shelf.{IsShelf, limit_of};
+ghost use Rattle.bdd_nodes.specs.Shelf.{limit_of};
 ghost use Rattle.ws2s_theory.specs.Peaks.{HasPeak};
 ghost use Rattle.ws2s_decide.specs.declared.verdict.Verdict.{Verdict};
 ghost use Rattle.ws2s_decide.specs.Deciding.{IsVerdict, guide_of, HasKept};
@@ -34,10 +34,7 @@ fn verdict_on(
     ensures kept { HasKept shelf.new decider.new }
     ensures guide { guide_of decider.new ≡ guide_of decider.old }
     ensures same_limit { limit_of shelf.new ≡ limit_of shelf.old }
-    ensures shelf { IsShelf shelf.new }
 {
-    // Only for its clause `shelf`.
-    let _ = shelf.count();
     let easier = apply(alloc, passes, formula)?;
     match decider.decide(alloc, &easier, tracks, shelf)? {
         Verdict::None => Ok(Verdict::None),
@@ -69,10 +66,7 @@ pub(crate) fn verdict_at(
     ensures kept { HasKept shelf.new decider.new }
     ensures guide { guide_of decider.new ≡ guide_of decider.old }
     ensures same_limit { limit_of shelf.new ≡ limit_of shelf.old }
-    ensures shelf { IsShelf shelf.new }
 {
-    // Only for its clause `shelf`.
-    let _ = shelf.count();
     match triple_formula(alloc, l, t, site)? {
         Some(formula) => {
             let verdict = verdict_on(alloc, &formula, passes, tracks, decider, shelf)?;

@@ -1,9 +1,6 @@
 -- From verdicts on a text's two formulas to the answer.
 use Rattle.std.proofs.Common.{◌≡◌, ℕ, zero, suc, ◌<◌, ◌||◌, false, cond, List, ◌∷◌, length}
 use Rattle.std.proofs.Common.{refl, sym, ap, ◌∙◌, arith, ne_eqb}
-use mathlib.Core.Bool.{true≢false}
-use Rattle.bdd_nodes.specs.Shelf.{empty_shelf}
-use Rattle.gta_keep.specs.Holding.{HasNoTables}
 use Rattle.gta_theory.specs.Weights.{weight}
 use Rattle.gta_witness.specs.Lightest.{each_once, is_among}
 use Rattle.ws2s_core.specs.declared.formula.Formula.{Formula}
@@ -61,6 +58,3 @@ above_holds limit text above p q holds breaks = omega (arith, above p holds)
 
 pub above_breaks : (limit : ℕ) (text : Text) → ((q : ℕ) → HasPeak plain (breaks_of text) q → limit < q) → IsPeakAbove limit text
 above_breaks limit text above p q holds breaks = omega (arith, above q breaks)
-
-pub HasNoTables-empty : (limit : ℕ) → HasNoTables (empty_shelf limit)
-HasNoTables-empty limit table there = true≢false (sym there)

@@ -1,7 +1,7 @@
 -- What deciding a formula gives, and what a decider keeps for the next one. (Thatcher and Wright 1968; Doner 1970; examples:
 -- the MONA 1.4 User Manual.)
 use Rattle.std.specs.Prelude.{◌≡◌, ℕ, ◌≤◌, List, All, Contains}
-use Rattle.bdd_nodes.specs.Shelf.{Contents}
+use Rattle.bdd_nodes.specs.Shelf.{Contents, IsShelf}
 use Rattle.gta_theory.specs.Assignments.{Assignment, Covers}
 use Rattle.gta_theory.specs.Guides.{Spaces}
 use Rattle.gta_theory.specs.Weights.{weight}
@@ -41,6 +41,7 @@ guide_of decider = decider.guide
 -- the automata that the decider keeps are there, each with a table of its own, and no other table is registered; each is a
 -- minimal automaton of the formula under whose number it is kept
 pub record HasKept (shelf : Contents) (decider : Decider) : Type 0 where
+  pub is_shelf : IsShelf shelf
   pub each : (a : AutoView) → Contains (kept_autos decider.kept) a → IsAuto decider.guide shelf a
   pub tables : (table : ℕ) → times (kept_autos decider.kept) table ≡ registered shelf table
   pub minimal : All (IsKept decider.guide shelf decider.interner) decider.kept

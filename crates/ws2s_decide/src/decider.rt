@@ -1,7 +1,7 @@
 //! Deciders: formulas decided one after the other, and once.
 
 ghost use Rattle.std.specs.Prelude.{◌≡◌, ◌<◌, ℕ, Ok, IfOk};
-ghost use Rattle.bdd_nodes.specs.Shelf.{Contents, IsShelf, limit_of};
+ghost use Rattle.bdd_nodes.specs.Shelf.{Contents, limit_of};
 ghost use Rattle.ws2s_theory.specs.Peaks.{HasPeak};
 ghost use Rattle.ws2s_decide.specs.declared.verdict.Verdict.{Verdict};
 ghost use Rattle.gta_keep.specs.Holding.{HasNoTables};
@@ -72,10 +72,8 @@ impl Decider {
         ensures kept { HasKept shelf.new self.new }
         ensures guide { guide_of self.new ≡ guide_of self.old }
         ensures same_limit { limit_of shelf.new ≡ limit_of shelf.old }
-        ensures shelf { IsShelf shelf.new }
     {
-        // Only for their clauses `shelf` and `guide`.
-        let _ = shelf.count();
+        // Only for its clause `guide`.
         let _ = self.guide.spaces();
         let id = intern(alloc, &mut self.interner, f)?;
         decide_number(
@@ -95,10 +93,7 @@ impl Decider {
         requires { HasKept shelf.old self }
         ensures tables { HasNoTables shelf.new }
         ensures same_limit { limit_of shelf.new ≡ limit_of shelf.old }
-        ensures shelf { IsShelf shelf.new }
     {
-        // Only for its clause `shelf`.
-        let _ = shelf.count();
         let Decider {
             guide,
             interner,
@@ -136,10 +131,7 @@ pub fn decide(
     // What the call leaves, whatever it answers.
     ensures tables { HasNoTables shelf.new }
     ensures same_limit { limit_of shelf.new ≡ limit_of shelf.old }
-    ensures shelf { IsShelf shelf.new }
 {
-    // Only for its clause `shelf`.
-    let _ = shelf.count();
     let guide = copy_of(alloc, g)?;
     let mut decider = Decider::new(alloc, guide)?;
     decider.once = true;

@@ -1,5 +1,5 @@
 use Rattle.std.proofs.Common.{List, [], length, sym, ap, subst, arith}
-use Rattle.store_core.specs.Tables.{TypeEntry}
+use Rattle.store_core.specs.Tables.{TypeEntry, IsTypeTable}
 use Rattle.routing_expr.specs.Gathering.{Gathers, Before}
 use Rattle.routing_expr.proofs.GatheringLemmas.{Gathers-start, Gathers-next, HasAll-gathered, HasAll-alike}
 use Rattle.field_judge.specs.Weighed.{IsVariantTrack}
@@ -16,8 +16,8 @@ loop-index-preserved c =
     Gathers-next (TrackIn c.args.l.now.types) c.loop-index.index [] c.loop-index.tracks c.push_tracks.new.tracks c.loop-index.invariant
     c.in_ok-push_tracks.ensures
 
-pub returns : goal.returns
-returns c =
+pub returns-clause-value : goal.returns-clause-value
+returns-clause-value c =
     let types = c.args.l.now.types in
     let In = TrackIn types in
     let n = c.loop-index.index in
@@ -29,3 +29,9 @@ returns c =
       ap (λ (ts : List TypeEntry). length ts)
           c.types.ensures.value,
     )))
+
+pub returns-clause-inside : goal.returns-clause-inside
+returns-clause-inside c = subst IsTypeTable c.types.ensures.value c.types-index-end.ensures.inside
+
+pub returns-in_err-push_tracks-clause-inside : goal.returns-in_err-push_tracks-clause-inside
+returns-in_err-push_tracks-clause-inside c = subst IsTypeTable c.types.ensures.value c.types-index-end.ensures.inside

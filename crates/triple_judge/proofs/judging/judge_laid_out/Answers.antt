@@ -15,7 +15,7 @@ returns-in-Nothing-clause-value g c = λ functional.
     let types = c.args.l.now.types in
     let formulas = site_formula types c.args.l.now.vars c.args.t.now in
     let known = subst (IsSearched formulas c.in_ok-tracks.tracks c.in_ok-count.count) c.in-Nothing.is c.in_ok-decide_sites.ensures.value in
-    valid-from types c.args.l.now.vars c.args.t.now c.requires.table functional c.requires.triple
+    valid-from types c.args.l.now.vars c.args.t.now c.in_ok-tracks.ensures.inside functional c.requires.triple
     (subst (λ (n : ℕ). IsSearched formulas c.in_ok-tracks.tracks n searched.Nothing) c.in_ok-count.ensures known)
 
 pub failure_of-requires-clause-lightest : goal.failure_of-requires-clause-lightest
@@ -25,7 +25,7 @@ failure_of-requires-clause-lightest g c =
     let known = subst (IsSearched formulas c.in_ok-tracks.tracks c.in_ok-count.count) c.in-Lightest.is c.in_ok-decide_sites.ensures.value in
     record {
       tracks = c.in_ok-tracks.tracks;
-      all = c.in_ok-tracks.ensures;
+      all = c.in_ok-tracks.ensures.value;
       lightest = subst (λ (n : ℕ). IsSearched formulas c.in_ok-tracks.tracks n (searched.Lightest c.in-Lightest.found)) c.in_ok-count.ensures known;
     }
 

@@ -9,7 +9,6 @@ use Rattle.triple_judge.proofs.searching.decide_in_order.Goals as goal
 pub loop-site-init : goal.loop-site-init
 loop-site-init g c =
     going-start (site_formula c.args.l.now.types c.args.l.now.vars c.args.t.now) c.args.tracks.now c.args.shelf.now c.args.decider.now c.requires
-    c.count.ensures.shelf
 
 pub verdict_at-requires : goal.verdict_at-requires
 verdict_at-requires g c = c.loop-site.invariant.kept
@@ -21,7 +20,7 @@ loop-site-preserved g c =
     c.in_ok-verdict.verdict c.loop-site.shelf c.verdict_at.new.shelf c.loop-site.decider c.verdict_at.new.decider c.loop-site.invariant
     c.in_ok-verdict.ensures.value (λ is. c.in_ok-verdict.ensures.limit (ap (λ (v : Verdict). Ok v) is))
     (c.with_verdict-searched.ensures.value formulas c.args.tracks.now) c.with_verdict-searched.ensures.limit
-    c.verdict_at.ensures.kept c.verdict_at.ensures.guide c.verdict_at.ensures.same_limit c.verdict_at.ensures.shelf
+    c.verdict_at.ensures.kept c.verdict_at.ensures.guide c.verdict_at.ensures.same_limit
 
 pub returns-then-is_settled : goal.returns-then-is_settled
 returns-then-is_settled g c =
@@ -32,7 +31,6 @@ returns-then-is_settled g c =
       limit = λ is. before.at_limit (Ok-same c.loop-site.searched searched.Limit is);
       kept = before.kept;
       same_limit = before.same_limit;
-      shelf = before.is_shelf;
     }
 
 pub returns-in_err-verdict-clause-same_limit : goal.returns-in_err-verdict-clause-same_limit
@@ -48,5 +46,4 @@ returns g c =
       limit = λ is. before.at_limit (Ok-same c.loop-site.searched searched.Limit is);
       kept = before.kept;
       same_limit = before.same_limit;
-      shelf = before.is_shelf;
     }
