@@ -1,4 +1,4 @@
-//! What the program's passes do: the four rewriters, each with a bound on the formulas that it takes.
+//! The program's passes: four rewriters, each with a bound on the formulas that it takes.
 
 ghost use Rattle.std.specs.Prelude.{◌≤◌, ◌↔◌, IsTrue, IfOk, length};
 ghost use Rattle.ws2s_core.specs.Postfix.{postfix_of};
@@ -8,13 +8,13 @@ use plain_data::Items;
 use std::alloc::{AllocError, Global};
 use ws2s_core::{Formula, symbols_of};
 use ws2s_narrow::narrow_scope;
-use ws2s_pass::{PassName, drop_unused, flatten_not, fold_constants};
+use ws2s_pass::{Pass, PassList, PassName, Rewriter, drop_unused, flatten_not, fold_constants};
 
 /// A formula with more nodes is left as it is.
 const BOUND: usize = 1_000_000;
 
 /// The name of a pass.
-pub(crate) fn name(alloc: Global, text: &str) -> Result<PassName, AllocError> {
+fn name(alloc: Global, text: &str) -> Result<PassName, AllocError> {
     Ok(PassName(Items::from_slice(alloc, text.as_bytes())?))
 }
 
@@ -27,7 +27,7 @@ fn is_within_bound(alloc: Global, formula: &Formula) -> Result<bool, AllocError>
 }
 
 /// `flatten_not` within the bound.
-pub(crate) fn flattened(alloc: Global, formula: &Formula) -> Result<Formula, AllocError>
+fn flattened(alloc: Global, formula: &Formula) -> Result<Formula, AllocError>
     ensures { IfOk result (λ made. IsRewriting formula.now made) }
 {
     if is_within_bound(alloc, formula)? {
@@ -38,7 +38,7 @@ pub(crate) fn flattened(alloc: Global, formula: &Formula) -> Result<Formula, All
 }
 
 /// `fold_constants` within the bound.
-pub(crate) fn folded(alloc: Global, formula: &Formula) -> Result<Formula, AllocError>
+fn folded(alloc: Global, formula: &Formula) -> Result<Formula, AllocError>
     ensures { IfOk result (λ made. IsRewriting formula.now made) }
 {
     if is_within_bound(alloc, formula)? {
@@ -49,7 +49,7 @@ pub(crate) fn folded(alloc: Global, formula: &Formula) -> Result<Formula, AllocE
 }
 
 /// `narrow_scope` within the bound.
-pub(crate) fn narrowed(alloc: Global, formula: &Formula) -> Result<Formula, AllocError>
+fn narrowed(alloc: Global, formula: &Formula) -> Result<Formula, AllocError>
     ensures { IfOk result (λ made. IsRewriting formula.now made) }
 {
     if is_within_bound(alloc, formula)? {
@@ -60,7 +60,7 @@ pub(crate) fn narrowed(alloc: Global, formula: &Formula) -> Result<Formula, Allo
 }
 
 /// `drop_unused` within the bound.
-pub(crate) fn dropped(alloc: Global, formula: &Formula) -> Result<Formula, AllocError>
+fn dropped(alloc: Global, formula: &Formula) -> Result<Formula, AllocError>
     ensures { IfOk result (λ made. IsRewriting formula.now made) }
 {
     if is_within_bound(alloc, formula)? {
@@ -68,4 +68,59 @@ pub(crate) fn dropped(alloc: Global, formula: &Formula) -> Result<Formula, Alloc
     } else {
         formula.copy(alloc)
     }
+}
+
+/// Puts the pass that leaves negations of negations out at the end.
+fn add_flattening(alloc: Global, passes: &mut PassList) -> Result<(), AllocError> {
+    let rewriter: Rewriter = Box::new(
+        alloc,
+        |alloc: Global, formula: &Formula| -> Result<Formula, AllocError>
+            ensures { IfOk result (λ made. IsRewriting formula.now made) }
+        { flattened(alloc, formula) },
+    )?;
+    passes.add(Pass::new(name(alloc, "flatten_not")?, rewriter))
+}
+
+/// Puts the pass that folds constants at the end.
+fn add_folding(alloc: Global, passes: &mut PassList) -> Result<(), AllocError> {
+    let rewriter: Rewriter = Box::new(
+        alloc,
+        |alloc: Global, formula: &Formula| -> Result<Formula, AllocError>
+            ensures { IfOk result (λ made. IsRewriting formula.now made) }
+        { folded(alloc, formula) },
+    )?;
+    passes.add(Pass::new(name(alloc, "fold_constants")?, rewriter))
+}
+
+/// Puts the pass that moves quantifiers inwards at the end.
+fn add_narrowing(alloc: Global, passes: &mut PassList) -> Result<(), AllocError> {
+    let rewriter: Rewriter = Box::new(
+        alloc,
+        |alloc: Global, formula: &Formula| -> Result<Formula, AllocError>
+            ensures { IfOk result (λ made. IsRewriting formula.now made) }
+        { narrowed(alloc, formula) },
+    )?;
+    passes.add(Pass::new(name(alloc, "narrow_scope")?, rewriter))
+}
+
+/// Puts the pass that drops unused quantifiers at the end.
+fn add_dropping(alloc: Global, passes: &mut PassList) -> Result<(), AllocError> {
+    let rewriter: Rewriter = Box::new(
+        alloc,
+        |alloc: Global, formula: &Formula| -> Result<Formula, AllocError>
+            ensures { IfOk result (λ made. IsRewriting formula.now made) }
+        { dropped(alloc, formula) },
+    )?;
+    passes.add(Pass::new(name(alloc, "drop_unused")?, rewriter))
+}
+
+/// The four passes, in the order in which they run. Each closure is made where its pass is, since a contract says nothing of a
+/// closure that is handed out; a pass keeps what is known of its own.
+pub(crate) fn program_passes(alloc: Global) -> Result<PassList, AllocError> {
+    let mut passes = PassList::new(alloc);
+    add_flattening(alloc, &mut passes)?;
+    add_folding(alloc, &mut passes)?;
+    add_narrowing(alloc, &mut passes)?;
+    add_dropping(alloc, &mut passes)?;
+    Ok(passes)
 }
