@@ -33,9 +33,32 @@ STANDING_LINES = {
     "crates/ws2s_narrow/proofs/NarrowLemmas.antt": 508,
     "crates/ws2s_read/proofs/ResolvedLemmas.antt": 605,
 }
+# Functions with more `?`, with their number: each is one `match` over the forms of a tree, to be split.
+STANDING_QUESTIONS = {
+    ("pale_acts", "read_condition"): 10,
+    ("pale_assertions", "read_assertion"): 16,
+    ("ws2s_read", "resolve_formula"): 18,
+}
 # Calls for a proof alone, by crate: what they tell is true of every value of the type, and no clause that the function
 # requires says it.
-STANDING_CALLS = {}
+STANDING_CALLS = {
+    "bdd_list": 1,
+    "bdd_walk": 4,
+    "gta_atom": 1,
+    "gta_core": 3,
+    "gta_keep": 5,
+    "gta_merge": 1,
+    "gta_minimise": 4,
+    "gta_product": 11,
+    "gta_project": 10,
+    "gta_subsets": 2,
+    "kernel_gallery": 3,
+    "store_exec": 1,
+    "whole_exec_tests": 1,
+    "whole_handing": 2,
+    "ws2s_context": 2,
+    "ws2s_decide": 1,
+}
 FUNCTION = re.compile(r"^([ \t]*)(?:pub(?:\([a-z]+\))? )?(?:const )?fn (\w+).*?^\1\}[ \t]*$", re.M | re.S)
 COMMENT_OR_TEXT = re.compile(r"//[^\n]*|b?\"(?:\\.|[^\"\\])*\"|b?'(?:\\.|[^'\\\n])'", re.S)
 
@@ -53,9 +76,10 @@ def function_faults(path, text):
     """Functions that ask too often whether there was memory."""
     code = COMMENT_OR_TEXT.sub(spaced, text)
     for found in FUNCTION.finditer(code):
-        asked = found.group(0).count("?")
-        if asked > MOST_QUESTIONS:
-            yield path, line_of(code, found.start()), f"{found.group(2)} has {asked} `?`, and {MOST_QUESTIONS} are the most"
+        asked, name = found.group(0).count("?"), found.group(2)
+        most = STANDING_QUESTIONS.get((path.relative_to(TOP).parts[1], name), MOST_QUESTIONS)
+        if asked > most:
+            yield path, line_of(code, found.start()), f"{name} has {asked} `?`, and {most} are the most"
 
 
 def call_faults(name, sources):

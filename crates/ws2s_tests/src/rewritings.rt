@@ -3,6 +3,7 @@
 use crate::formulas::{formula, is};
 use std::alloc::{AllocError, Global};
 use std::test::Fail;
+use ws2s_core::Formula;
 use ws2s_narrow::narrow_scope;
 use ws2s_pass::{drop_unused, flatten_not, fold_constants};
 
@@ -143,20 +144,40 @@ fn wanted(row: &Row, answer: &'static str) -> &'static str {
     if answer == "stays" { row[0] } else { answer }
 }
 
+/// Whether this is made of the formula where no two negations stand together.
+fn is_flat(alloc: Global, whole: &Formula, wanted: &'static str) -> Result<bool, AllocError> {
+    let made = flatten_not(alloc, whole)?;
+    is(alloc, &made, wanted)
+}
+
+/// Whether this is made of the formula where quantifiers of what isn't free are left out.
+fn is_used(alloc: Global, whole: &Formula, wanted: &'static str) -> Result<bool, AllocError> {
+    let made = drop_unused(alloc, whole)?;
+    is(alloc, &made, wanted)
+}
+
+/// Whether this is made of the formula where constants are folded.
+fn is_folded(alloc: Global, whole: &Formula, wanted: &'static str) -> Result<bool, AllocError> {
+    let made = fold_constants(alloc, whole)?;
+    is(alloc, &made, wanted)
+}
+
+/// Whether this is made of the formula where quantifiers stand as far inside as they may.
+fn is_narrow(alloc: Global, whole: &Formula, wanted: &'static str) -> Result<bool, AllocError> {
+    let made = narrow_scope(alloc, whole)?;
+    is(alloc, &made, wanted)
+}
+
 /// Whether each rewriter's answer is as the row has it.
 fn holds(alloc: Global, row: &Row) -> Result<[bool; 4], AllocError> {
     let Some(whole) = formula(alloc, row[0])? else {
         return Ok([false; 4]);
     };
-    let flat = flatten_not(alloc, &whole)?;
-    let used = drop_unused(alloc, &whole)?;
-    let folded = fold_constants(alloc, &whole)?;
-    let narrow = narrow_scope(alloc, &whole)?;
     Ok([
-        is(alloc, &flat, wanted(row, row[1]))?,
-        is(alloc, &used, wanted(row, row[2]))?,
-        is(alloc, &folded, wanted(row, row[3]))?,
-        is(alloc, &narrow, wanted(row, row[4]))?,
+        is_flat(alloc, &whole, wanted(row, row[1]))?,
+        is_used(alloc, &whole, wanted(row, row[2]))?,
+        is_folded(alloc, &whole, wanted(row, row[3]))?,
+        is_narrow(alloc, &whole, wanted(row, row[4]))?,
     ])
 }
 
