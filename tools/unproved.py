@@ -10,6 +10,7 @@ the crate has a file `stdin`, the program is run on it, and what it writes is co
 status is 1 where they differ. Nothing that such a build answers counts as proved.
 """
 import os
+import resource
 import shutil
 import signal
 import subprocess
@@ -92,7 +93,9 @@ def main():
     began = time.time()
     with tempfile.TemporaryDirectory(prefix="unproved-") as room:
         compiled(lowered(crate, Path(room)), Path(room), program)
-    print(f"unproved: built {program.relative_to(TOP)} in {time.time() - began:.0f} s")
+    used = resource.getrusage(resource.RUSAGE_CHILDREN)
+    seconds, memory = used.ru_utime + used.ru_stime, used.ru_maxrss / 2**20
+    print(f"unproved: built {program.relative_to(TOP)} in {time.time() - began:.0f} s, {seconds:.0f} of a processor, at most {memory:.1f} GB a process", flush=True)
     return 0 if compare(crate, program) else 1
 
 

@@ -1,6 +1,7 @@
-//! The program's passes: four rewriters, each with a bound on the formulas that it takes.
+//! The program's passes: what the four rewriters do, each with a bound on the formulas that it takes, and their list.
 
-ghost use Rattle.std.specs.Prelude.{◌≤◌, ◌↔◌, IsTrue, IfOk, length};
+ghost use Rattle.std.specs.Prelude.{◌≤◌, ◌↔◌, IsTrue, IfOk, Ok, length};
+ghost use Rattle.ws2s_core.specs.declared.formula.Formula.{Formula};
 ghost use Rattle.ws2s_core.specs.Postfix.{postfix_of};
 ghost use Rattle.ws2s_pass.specs.Rewriting.{IsRewriting};
 
@@ -27,7 +28,7 @@ fn is_within_bound(alloc: Global, formula: &Formula) -> Result<bool, AllocError>
 }
 
 /// `flatten_not` within the bound.
-fn flattened(alloc: Global, formula: &Formula) -> Result<Formula, AllocError>
+pub(crate) fn flattened(alloc: Global, formula: &Formula) -> Result<Formula, AllocError>
     ensures { IfOk result (λ made. IsRewriting formula.now made) }
 {
     if is_within_bound(alloc, formula)? {
@@ -38,7 +39,7 @@ fn flattened(alloc: Global, formula: &Formula) -> Result<Formula, AllocError>
 }
 
 /// `fold_constants` within the bound.
-fn folded(alloc: Global, formula: &Formula) -> Result<Formula, AllocError>
+pub(crate) fn folded(alloc: Global, formula: &Formula) -> Result<Formula, AllocError>
     ensures { IfOk result (λ made. IsRewriting formula.now made) }
 {
     if is_within_bound(alloc, formula)? {
@@ -49,7 +50,7 @@ fn folded(alloc: Global, formula: &Formula) -> Result<Formula, AllocError>
 }
 
 /// `narrow_scope` within the bound.
-fn narrowed(alloc: Global, formula: &Formula) -> Result<Formula, AllocError>
+pub(crate) fn narrowed(alloc: Global, formula: &Formula) -> Result<Formula, AllocError>
     ensures { IfOk result (λ made. IsRewriting formula.now made) }
 {
     if is_within_bound(alloc, formula)? {
@@ -60,7 +61,7 @@ fn narrowed(alloc: Global, formula: &Formula) -> Result<Formula, AllocError>
 }
 
 /// `drop_unused` within the bound.
-fn dropped(alloc: Global, formula: &Formula) -> Result<Formula, AllocError>
+pub(crate) fn dropped(alloc: Global, formula: &Formula) -> Result<Formula, AllocError>
     ensures { IfOk result (λ made. IsRewriting formula.now made) }
 {
     if is_within_bound(alloc, formula)? {
@@ -70,57 +71,35 @@ fn dropped(alloc: Global, formula: &Formula) -> Result<Formula, AllocError>
     }
 }
 
-/// Puts the pass that leaves negations of negations out at the end.
-fn add_flattening(alloc: Global, passes: &mut PassList) -> Result<(), AllocError> {
-    let rewriter: Rewriter = Box::new(
-        alloc,
-        |alloc: Global, formula: &Formula| -> Result<Formula, AllocError>
-            ensures { IfOk result (λ made. IsRewriting formula.now made) }
-        { flattened(alloc, formula) },
-    )?;
-    passes.add(Pass::new(name(alloc, "flatten_not")?, rewriter))
+/// Puts a pass with this name at the end of the list.
+fn add(alloc: Global, passes: &mut PassList, text: &str, run: Rewriter) -> Result<(), AllocError>
+    requires callable { Rewriter.IsAlwaysCallable run }
+    requires rewrites { (alloc : _) (f : _) (g : Formula) → Rewriter.post run alloc f (Ok g) → IsRewriting f.now g }
+{
+    passes.add(Pass::new(name(alloc, text)?, run))
 }
 
-/// Puts the pass that folds constants at the end.
-fn add_folding(alloc: Global, passes: &mut PassList) -> Result<(), AllocError> {
-    let rewriter: Rewriter = Box::new(
-        alloc,
-        |alloc: Global, formula: &Formula| -> Result<Formula, AllocError>
-            ensures { IfOk result (λ made. IsRewriting formula.now made) }
-        { folded(alloc, formula) },
-    )?;
-    passes.add(Pass::new(name(alloc, "fold_constants")?, rewriter))
-}
-
-/// Puts the pass that moves quantifiers inwards at the end.
-fn add_narrowing(alloc: Global, passes: &mut PassList) -> Result<(), AllocError> {
-    let rewriter: Rewriter = Box::new(
-        alloc,
-        |alloc: Global, formula: &Formula| -> Result<Formula, AllocError>
-            ensures { IfOk result (λ made. IsRewriting formula.now made) }
-        { narrowed(alloc, formula) },
-    )?;
-    passes.add(Pass::new(name(alloc, "narrow_scope")?, rewriter))
-}
-
-/// Puts the pass that drops unused quantifiers at the end.
-fn add_dropping(alloc: Global, passes: &mut PassList) -> Result<(), AllocError> {
-    let rewriter: Rewriter = Box::new(
-        alloc,
-        |alloc: Global, formula: &Formula| -> Result<Formula, AllocError>
-            ensures { IfOk result (λ made. IsRewriting formula.now made) }
-        { dropped(alloc, formula) },
-    )?;
-    passes.add(Pass::new(name(alloc, "drop_unused")?, rewriter))
-}
-
-/// The four passes, in the order in which they run. Each closure is made where its pass is, since a contract says nothing of a
-/// closure that is handed out; a pass keeps what is known of its own.
-pub(crate) fn program_passes(alloc: Global) -> Result<PassList, AllocError> {
+/// The list of the program's passes, in the order in which they run.
+pub(crate) fn listed(
+    alloc: Global,
+    flattening: Rewriter,
+    folding: Rewriter,
+    narrowing: Rewriter,
+    dropping: Rewriter,
+) -> Result<PassList, AllocError>
+    requires flattening_callable { Rewriter.IsAlwaysCallable flattening }
+    requires flattening_rewrites { (alloc : _) (f : _) (g : Formula) → Rewriter.post flattening alloc f (Ok g) → IsRewriting f.now g }
+    requires folding_callable { Rewriter.IsAlwaysCallable folding }
+    requires folding_rewrites { (alloc : _) (f : _) (g : Formula) → Rewriter.post folding alloc f (Ok g) → IsRewriting f.now g }
+    requires narrowing_callable { Rewriter.IsAlwaysCallable narrowing }
+    requires narrowing_rewrites { (alloc : _) (f : _) (g : Formula) → Rewriter.post narrowing alloc f (Ok g) → IsRewriting f.now g }
+    requires dropping_callable { Rewriter.IsAlwaysCallable dropping }
+    requires dropping_rewrites { (alloc : _) (f : _) (g : Formula) → Rewriter.post dropping alloc f (Ok g) → IsRewriting f.now g }
+{
     let mut passes = PassList::new(alloc);
-    add_flattening(alloc, &mut passes)?;
-    add_folding(alloc, &mut passes)?;
-    add_narrowing(alloc, &mut passes)?;
-    add_dropping(alloc, &mut passes)?;
+    add(alloc, &mut passes, "flatten_not", flattening)?;
+    add(alloc, &mut passes, "fold_constants", folding)?;
+    add(alloc, &mut passes, "narrow_scope", narrowing)?;
+    add(alloc, &mut passes, "drop_unused", dropping)?;
     Ok(passes)
 }
