@@ -3,11 +3,11 @@
 
     tools/unproved.py NAME
 
-NAME is a crate with a `main`, as `pale` or `pale_gallery`. `rt try` lowers the program and all crates below it, and
+NAME is a crate with a `main`, as `pale_gallery` or `pale`. `rt try` lowers the program and all crates below it, and
 compiles that with checks that find faults, which makes it slow; here the kit's own clang compiles the same code
 without them, so that it is about as fast as a proved build. The program is left at crates/NAME/out/unproved. Where
-the crate has a file `stdin`, the program is run on it, and what it writes is compared with the file `stdout`; the
-status is 1 where they differ. Nothing that such a build answers counts as proved.
+the crate has a file `stdin`, the program is run on it with the words of `args`, and what it writes and its status are
+compared with the files `stdout` and `status`, as `rt ci` does with a proved build; the script's status is 1 where they differ. Nothing that such a build answers counts as proved.
 """
 import os
 import resource
@@ -71,15 +71,18 @@ def compiled(text, room, to):
     subprocess.run(["gcc", object_file, KIT / "c" / "liblibc_c.a", KIT / "c" / "libos_c.a", "-o", to], check=True)
 
 
+def stored(crate, name):
+    """What stands in the crate's file of that name, and nothing where there is none."""
+    path = crate / name
+    return path.read_bytes() if path.exists() else b""
+
+
 def compare(crate, program):
     """Whether the program writes what is stored, where the crate has an input."""
-    given, stored = crate / "stdin", crate / "stdout"
-    if not given.exists():
+    if not (crate / "stdin").exists():
         return True
-    with open(given) as text:
-        ran = subprocess.run([program], stdin=text, stdout=subprocess.PIPE)
-    wanted = stored.read_bytes() if stored.exists() else b""
-    is_same = ran.stdout == wanted and ran.returncode == 0
+    ran = subprocess.run([program, *stored(crate, "args").split()], input=stored(crate, "stdin"), stdout=subprocess.PIPE)
+    is_same = ran.stdout == stored(crate, "stdout") and ran.returncode == int(stored(crate, "status") or 0)
     print(f"unproved: {crate.name} wrote {'what is stored' if is_same else 'something else than is stored'}, {len(ran.stdout)} bytes")
     return is_same
 
