@@ -4,7 +4,7 @@ ghost use Rattle.std.specs.Prelude.{◌≡◌, None, map, IfOk, IfErr, OnOk};
 ghost use Rattle.pale_tables.specs.Faults.{first_of, IsStop};
 ghost use Rattle.pale_terms.specs.Terms.{compared_fault, variant_test_fault};
 ghost use Rattle.pale_acts.specs.Conditions.{is_truth_path, truth_fault, truth_in, truth_of, same_of, is_in, is_of, joined, chained, negated};
-ghost use Rattle.pale_acts.specs.Conditions.{condition_fault, typed_condition};
+ghost use Rattle.pale_acts.specs.Conditions.{condition_fault, typed_condition, chain_fault, typed_chain};
 
 use crate::operands::{first_place, operand_in, path_in};
 use pale_syntax::{Condition, Name, Term as SourceTerm};
@@ -159,6 +159,26 @@ fn read_each(
     Ok(found)
 }
 
+/// A chain of conditions, which groups to the left.
+#[cycle(conditions)]
+#[tactic(auto, using(pale_tables::proofs::FaultLemmas::stops))]
+fn read_chain(
+    alloc: Global,
+    types: &TypeTable,
+    scope: &Scope,
+    junction: Junction,
+    first: &Condition,
+    others: &[Condition],
+) -> Result<Cond, TextStop>
+    ensures met { OnOk result (chain_fault types.now scope.now first.now others.now ≡ None) }
+    ensures chain { IfOk result (λ made. made ≡ typed_chain junction types.now scope.now first.now others.now) }
+    ensures stop { IfErr result (IsStop (chain_fault types.now scope.now first.now others.now)) }
+{
+    let first = read_condition(alloc, types, scope, first)?;
+    let others = read_each(alloc, types, scope, others)?;
+    Ok(join_all(alloc, junction, first, others)?)
+}
+
 /// A condition with its names looked up.
 ///
 /// # Errors
@@ -193,14 +213,12 @@ pub fn read_condition(
             Ok(negate(alloc, inner)?)
         }
         Condition::And(first, others) => {
-            let first = read_condition(alloc, types, scope, first.get())?;
-            let others = read_each(alloc, types, scope, others.as_slice())?;
-            Ok(join_all(alloc, Junction::And, first, others)?)
+            let others = others.as_slice();
+            read_chain(alloc, types, scope, Junction::And, first.get(), others)
         }
         Condition::Or(first, others) => {
-            let first = read_condition(alloc, types, scope, first.get())?;
-            let others = read_each(alloc, types, scope, others.as_slice())?;
-            Ok(join_all(alloc, Junction::Or, first, others)?)
+            let others = others.as_slice();
+            read_chain(alloc, types, scope, Junction::Or, first.get(), others)
         }
     }
 }
