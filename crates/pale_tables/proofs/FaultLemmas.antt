@@ -1,5 +1,5 @@
 -- Steps of the search for the first fault.
-use Rattle.std.proofs.Common.{◌≡◌, None, Result, Ok, Err, IfErr, sym, ap, ◌∙◌, subst}
+use Rattle.std.proofs.Common.{◌≡◌, None, Result, Ok, Err, OnOk, IfErr, sym, ap, ◌∙◌, subst}
 use Rattle.std.specs.Result.{IsErrAnd}
 use Rattle.pale_text.specs.declared.refusal.TextStop.{TextStop}
 use Rattle.pale_text.specs.declared.refusal.TextStop.TheVariants as stop
@@ -28,5 +28,15 @@ pub stop_same : {U : Type 0} (one other : Fault) (r : Result U TextStop) → ((e
     IfErr r (IsStop one) → IfErr r (IsStop other)
 stop_same one other (Ok x) leads is = tt
 stop_same one other (Err e) leads is = leads e is
+
+-- a result that is handed on after a part without a fault
+pub met-after : {U : Type 0} (first after : Fault) (r : Result U TextStop) → first ≡ None → OnOk r (after ≡ None) → OnOk r ((first >> after) ≡ None)
+met-after first after (Ok x) none last = none-then first after none last
+met-after first after (Err e) none last = tt
+
+pub stop-last : {U : Type 0} (first after : Fault) (r : Result U TextStop) → first ≡ None → IfErr r (IsStop after) → IfErr r (IsStop (first >> after))
+stop-last first after r none is = stop_same after (first >> after) r (λ e. stop-after first after e none) is
+
+pub ruleset tails = (met-after, stop-last)
 
 pub ruleset stops = (stop-then, stop-after, none-then)

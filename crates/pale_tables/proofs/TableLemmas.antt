@@ -100,7 +100,8 @@ module _ (names : TypeNames) (types : List TypeEntry) (covers : Covers names typ
   all-append P [] ys all more = more
   all-append P (x ∷ xs) ys all more = (all.0, all-append P xs ys all.1 more)
 
-  names-of : (only : Option ℕ) (fields : List FieldDeclaration) → field_names (map (field_entry names only) fields) ≡ map (λ (f : FieldDeclaration). f.name.bytes) fields
+  names-of : (only : Option ℕ) (fields : List FieldDeclaration) →
+      field_names (map (field_entry names only) fields) ≡ map (λ (f : FieldDeclaration). f.name.bytes) fields
   names-of only [] = refl
   names-of only (f ∷ fields) = ap (λ more. f.name.bytes ∷ more) (names-of only fields)
 
@@ -219,11 +220,13 @@ covers ts = record {
   variants = λ ty name v at. covers-variant ts (names_in ts) ty name v at;
 }
 
-table-names : (ts : List TypeDeclaration) → map (λ (n : Name). n.bytes) (map (λ (t : TypeDeclaration). t.name) ts) ≡ type_names (type_table ts)
+table-names : (ts : List TypeDeclaration) →
+    map (λ (n : Name). n.bytes) (map (λ (t : TypeDeclaration). t.name) ts) ≡ type_names (type_table ts)
 unfolding type_table
 table-names ts = by (names_in ts) ts
   where
-    by : (names : TypeNames) (ts : List TypeDeclaration) → map (λ (n : Name). n.bytes) (map (λ (t : TypeDeclaration). t.name) ts) ≡ type_names (map (type_entry names) ts)
+    by : (names : TypeNames) (ts : List TypeDeclaration) →
+        map (λ (n : Name). n.bytes) (map (λ (t : TypeDeclaration). t.name) ts) ≡ type_names (map (type_entry names) ts)
     by names [] = refl
     by names (t ∷ ts) = ap (λ more. t.name.bytes ∷ more) (by names ts)
 

@@ -1,6 +1,7 @@
 //! Routes with their names looked up.
 
-ghost use Rattle.std.specs.Prelude.{◌≡◌, None, map, IfOk, IfErr, OnOk};
+ghost use Rattle.std.specs.Prelude.{◌≡◌, None, map, IfOk, IfErr, OnOk, if◌then◌else◌};
+ghost use Rattle.store_core.specs.declared.kind.Route.TheVariants as route;
 ghost use Rattle.pale_tables.specs.Faults.{first_of, IsStop};
 ghost use Rattle.pale_tables.specs.Routes.{followed_fault, bool_fault, route_fault, route_of, joined, chained, starred};
 
@@ -20,19 +21,25 @@ pub enum Chain {
     Or,
 }
 
-/// The name of a followed field.
-fn read_followed(
+/// `f`, or `^f`
+fn read_step(
     alloc: Global,
     names: &TypeNames,
     followed: Followed,
     f: &Name,
-) -> Result<ByteList, TextStop>
+    is_up: bool,
+) -> Result<Route, TextStop>
     ensures met { OnOk result (followed_fault names.now followed f.now ≡ None) }
-    ensures name { IfOk result (λ name. name ≡ f.now.bytes) }
+    ensures route { IfOk result (λ made. made ≡ (if is_up then route.Up f.now.bytes else route.Down f.now.bytes)) }
     ensures stop { IfErr result (IsStop (followed_fault names.now followed f.now)) }
 {
     names.need_followed(followed, f)?;
-    Ok(Items::from_slice(alloc, f.bytes.as_slice())?)
+    let name = Items::from_slice(alloc, f.bytes.as_slice())?;
+    if is_up {
+        Ok(Route::Up(name))
+    } else {
+        Ok(Route::Down(name))
+    }
 }
 
 /// The name of a bool field.
@@ -103,6 +110,24 @@ fn read_each(
     Ok(found)
 }
 
+/// The routes of a chain, whose first was read before.
+#[cycle(routes)]
+fn read_others(
+    alloc: Global,
+    names: &TypeNames,
+    followed: Followed,
+    others: &[SourceRoute],
+    chain: Chain,
+    first: Route,
+) -> Result<Route, TextStop>
+    ensures met { OnOk result (first_of (route_fault names.now followed) others.now ≡ None) }
+    ensures route { IfOk result (λ made. made ≡ chained chain first (map (route_of names.now) others.now)) }
+    ensures stop { IfErr result (IsStop (first_of (route_fault names.now followed) others.now)) }
+{
+    let others = read_each(alloc, names, followed, others)?;
+    Ok(join_all(alloc, chain, first, others)?)
+}
+
 /// A route with its names looked up.
 ///
 /// # Errors
@@ -110,7 +135,7 @@ fn read_each(
 /// `Refused` is the first fault from the left: `unknown` at a field that no type has, at a type or a variant that isn't there;
 /// `kind` at a field that no type has in the form that the route needs.
 #[cycle(routes)]
-#[tactic(auto, using(crate::proofs::RouteLemmas::route_forms, crate::proofs::FaultLemmas::stops))]
+#[tactic(auto, using(crate::proofs::RouteLemmas::route_forms, crate::proofs::FaultLemmas::stops, crate::proofs::FaultLemmas::tails))]
 pub fn read_route(
     alloc: Global,
     names: &TypeNames,
@@ -122,8 +147,8 @@ pub fn read_route(
     ensures stop { IfErr result (IsStop (route_fault names.now followed route.now)) }
 {
     match route {
-        SourceRoute::Down(f) => Ok(Route::Down(read_followed(alloc, names, followed, f)?)),
-        SourceRoute::Up(f) => Ok(Route::Up(read_followed(alloc, names, followed, f)?)),
+        SourceRoute::Down(f) => read_step(alloc, names, followed, f, false),
+        SourceRoute::Up(f) => read_step(alloc, names, followed, f, true),
         SourceRoute::UpAny => Ok(Route::UpAny),
         SourceRoute::Root => Ok(Route::Root),
         SourceRoute::Leaf => Ok(Route::Leaf),
@@ -132,13 +157,18 @@ pub fn read_route(
         SourceRoute::IsBool(f, truth) => Ok(Route::IsBool(read_bool(alloc, names, f)?, *truth)),
         SourceRoute::Then(first, others) => {
             let first = read_route(alloc, names, followed, first.get())?;
-            let others = read_each(alloc, names, followed, others.as_slice())?;
-            Ok(join_all(alloc, Chain::Then, first, others)?)
+            read_others(
+                alloc,
+                names,
+                followed,
+                others.as_slice(),
+                Chain::Then,
+                first,
+            )
         }
         SourceRoute::Or(first, others) => {
             let first = read_route(alloc, names, followed, first.get())?;
-            let others = read_each(alloc, names, followed, others.as_slice())?;
-            Ok(join_all(alloc, Chain::Or, first, others)?)
+            read_others(alloc, names, followed, others.as_slice(), Chain::Or, first)
         }
         SourceRoute::Star(round, stars) => {
             let round = read_route(alloc, names, followed, round.get())?;
