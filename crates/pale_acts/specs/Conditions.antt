@@ -1,5 +1,5 @@
 -- Conditions: a rule for what each is typed as, and one for its faults, parts from the left.
-use Rattle.std.specs.Prelude.{Bool, false, List, map, fold, None}
+use Rattle.std.specs.Prelude.{Bool, false, List, fold, None}
 use Rattle.pale_text.specs.declared.refusal.RefusalKind.TheVariants as kind
 use Rattle.pale_syntax.specs.declared.tree.names.Name.{Name}
 use Rattle.pale_syntax.specs.declared.tree.names.Term as source
@@ -94,11 +94,3 @@ fault_rules types scope (Condition-F.Or first others) = first >> first_of (λ ne
 -- the first fault of a condition
 unfoldable pub condition_fault : List TypeEntry → List Entry → Condition → Fault
 condition_fault types scope = fold-Condition Fault (fault_rules types scope)
-
--- ---- a chain
-
-abbrev pub chain_fault : List TypeEntry → List Entry → Condition → List Condition → Fault
-chain_fault types scope first others = condition_fault types scope first >> first_of (condition_fault types scope) others
-
-abbrev pub typed_chain : Junction → List TypeEntry → List Entry → Condition → List Condition → Cond
-typed_chain by types scope first others = chained by (typed_condition types scope first) (map (typed_condition types scope) others)

@@ -4,7 +4,7 @@ ghost use Rattle.std.specs.Prelude.{◌≡◌, None, map, IfOk, IfErr, OnOk};
 ghost use Rattle.pale_tables.specs.Faults.{first_of, IsStop};
 ghost use Rattle.pale_terms.specs.Terms.{compared_fault, variant_test_fault};
 ghost use Rattle.pale_acts.specs.Conditions.{is_truth_path, truth_fault, truth_in, truth_of, same_of, is_in, is_of, joined, chained, negated};
-ghost use Rattle.pale_acts.specs.Conditions.{condition_fault, typed_condition, chain_fault, typed_chain};
+ghost use Rattle.pale_acts.specs.Conditions.{condition_fault, typed_condition};
 
 use crate::operands::{first_place, operand_in, path_in};
 use pale_syntax::{Condition, Name, Term as SourceTerm};
@@ -159,22 +159,20 @@ fn read_each(
     Ok(found)
 }
 
-/// A chain of conditions, which groups to the left.
+/// The conditions of a chain, whose first was read before.
 #[cycle(conditions)]
-#[tactic(auto, using(pale_tables::proofs::FaultLemmas::stops))]
-fn read_chain(
+fn read_others(
     alloc: Global,
     types: &TypeTable,
     scope: &Scope,
-    junction: Junction,
-    first: &Condition,
     others: &[Condition],
+    junction: Junction,
+    first: Cond,
 ) -> Result<Cond, TextStop>
-    ensures met { OnOk result (chain_fault types.now scope.now first.now others.now ≡ None) }
-    ensures chain { IfOk result (λ made. made ≡ typed_chain junction types.now scope.now first.now others.now) }
-    ensures stop { IfErr result (IsStop (chain_fault types.now scope.now first.now others.now)) }
+    ensures met { OnOk result (first_of (condition_fault types.now scope.now) others.now ≡ None) }
+    ensures condition { IfOk result (λ made. made ≡ chained junction first (map (typed_condition types.now scope.now) others.now)) }
+    ensures stop { IfErr result (IsStop (first_of (condition_fault types.now scope.now) others.now)) }
 {
-    let first = read_condition(alloc, types, scope, first)?;
     let others = read_each(alloc, types, scope, others)?;
     Ok(join_all(alloc, junction, first, others)?)
 }
@@ -185,7 +183,7 @@ fn read_chain(
 ///
 /// `Refused` is the first fault from the left.
 #[cycle(conditions)]
-#[tactic(auto, using(crate::proofs::ConditionLemmas::condition_forms, pale_tables::proofs::FaultLemmas::stops))]
+#[tactic(auto, using(crate::proofs::ConditionLemmas::condition_forms, pale_tables::proofs::FaultLemmas::stops, pale_tables::proofs::FaultLemmas::tails))]
 pub fn read_condition(
     alloc: Global,
     types: &TypeTable,
@@ -213,12 +211,14 @@ pub fn read_condition(
             Ok(negate(alloc, inner)?)
         }
         Condition::And(first, others) => {
+            let first = read_condition(alloc, types, scope, first.get())?;
             let others = others.as_slice();
-            read_chain(alloc, types, scope, Junction::And, first.get(), others)
+            read_others(alloc, types, scope, others, Junction::And, first)
         }
         Condition::Or(first, others) => {
+            let first = read_condition(alloc, types, scope, first.get())?;
             let others = others.as_slice();
-            read_chain(alloc, types, scope, Junction::Or, first.get(), others)
+            read_others(alloc, types, scope, others, Junction::Or, first)
         }
     }
 }
