@@ -77,3 +77,11 @@ inside_fault vocabulary scope q a = quantifier_fault vocabulary.types scope q >>
 
 abbrev pub governed : Vocabulary → List Entry → Quantifier → source.Assertion → Assertion
 governed vocabulary scope q a = quantified q (bound_type vocabulary.types q) (typed_assertion vocabulary (inside vocabulary.types scope q) a)
+
+-- ---- a chain
+
+abbrev pub chain_fault : Vocabulary → List Entry → source.Assertion → List source.Assertion → Fault
+chain_fault vocabulary scope first others = assertion_fault vocabulary scope first >> first_of (assertion_fault vocabulary scope) others
+
+abbrev pub typed_chain : Connective → Vocabulary → List Entry → source.Assertion → List source.Assertion → Assertion
+typed_chain by vocabulary scope first others = chained by (typed_assertion vocabulary scope first) (map (typed_assertion vocabulary scope) others)

@@ -1,8 +1,8 @@
 //! Assertions of any form.
 
 ghost use Rattle.std.specs.Prelude.{◌≡◌, None, length, map, take, IfOk, IfErr, OnOk};
-ghost use Rattle.pale_tables.specs.Faults.{first_of, ◌>>◌, IsStop};
-ghost use Rattle.pale_assertions.specs.Assertions.{assertion_fault, typed_assertion, inside_fault, governed};
+ghost use Rattle.pale_tables.specs.Faults.{first_of, IsStop};
+ghost use Rattle.pale_assertions.specs.Assertions.{assertion_fault, typed_assertion, chain_fault, typed_chain, inside_fault, governed};
 ghost use Rattle.pale_assertions.specs.Quantifiers.{bound_type, inside};
 
 use crate::arguments::read_use;
@@ -80,6 +80,27 @@ fn read_quantified(
     Ok(quantify(alloc, quantifier, ty, inner)?)
 }
 
+/// A chain of assertions, which groups to the left.
+#[cycle(assertions)]
+#[tactic(auto, using(pale_tables::proofs::FaultLemmas::stops))]
+fn read_chain(
+    alloc: Global,
+    vocabulary: &Vocabulary,
+    scope: &mut Scope,
+    connective: Connective,
+    first: &SourceAssertion,
+    others: &[SourceAssertion],
+) -> Result<Assertion, TextStop>
+    ensures met { OnOk result (chain_fault vocabulary.now scope.old first.now others.now ≡ None) }
+    ensures chain { IfOk result (λ made. made ≡ typed_chain connective vocabulary.now scope.old first.now others.now) }
+    ensures scope { scope.new ≡ scope.old }
+    ensures stop { IfErr result (IsStop (chain_fault vocabulary.now scope.old first.now others.now)) }
+{
+    let first = read_assertion(alloc, vocabulary, scope, first)?;
+    let others = read_each(alloc, vocabulary, scope, others)?;
+    Ok(connect_all(alloc, connective, first, others)?)
+}
+
 /// An assertion with its names looked up. Nothing is put in for predicates. The scope is used for what quantifiers bind, and is in
 /// the end as it was.
 ///
@@ -127,14 +148,14 @@ pub fn read_assertion(
             Ok(negate(alloc, inner)?)
         }
         SourceAssertion::And(first, others) => {
-            let first = read_assertion(alloc, vocabulary, scope, first.get())?;
-            let others = read_each(alloc, vocabulary, scope, others.as_slice())?;
-            Ok(connect_all(alloc, Connective::And, first, others)?)
+            let first = first.get();
+            let others = others.as_slice();
+            read_chain(alloc, vocabulary, scope, Connective::And, first, others)
         }
         SourceAssertion::Or(first, others) => {
-            let first = read_assertion(alloc, vocabulary, scope, first.get())?;
-            let others = read_each(alloc, vocabulary, scope, others.as_slice())?;
-            Ok(connect_all(alloc, Connective::Or, first, others)?)
+            let first = first.get();
+            let others = others.as_slice();
+            read_chain(alloc, vocabulary, scope, Connective::Or, first, others)
         }
         SourceAssertion::Imp(left, _, right) => {
             let left = read_assertion(alloc, vocabulary, scope, left.get())?;
@@ -142,9 +163,9 @@ pub fn read_assertion(
             Ok(connect(alloc, Connective::Imp, left, right)?)
         }
         SourceAssertion::Iff(first, others) => {
-            let first = read_assertion(alloc, vocabulary, scope, first.get())?;
-            let others = read_each(alloc, vocabulary, scope, others.as_slice())?;
-            Ok(connect_all(alloc, Connective::Iff, first, others)?)
+            let first = first.get();
+            let others = others.as_slice();
+            read_chain(alloc, vocabulary, scope, Connective::Iff, first, others)
         }
         SourceAssertion::Quantified(quantifier, inner) => {
             read_quantified(alloc, vocabulary, scope, quantifier, inner.get())
