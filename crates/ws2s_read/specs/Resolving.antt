@@ -22,6 +22,7 @@ use Rattle.ws2s_syntax.specs.declared.declaration.Class.{Class}
 use Rattle.ws2s_syntax.specs.declared.declaration.Class.TheVariants as class
 use Rattle.ws2s_syntax.specs.declared.formula.Atom.{Atom}
 use Rattle.ws2s_syntax.specs.declared.formula.Atom.TheVariants as atom
+use Rattle.ws2s_syntax.specs.declared.formula.Connective.{Connective}
 use Rattle.ws2s_syntax.specs.declared.formula.Quantifier.{Quantifier}
 use Rattle.ws2s_syntax.specs.declared.formula.TextFormula.{TextFormula}
 use Rattle.ws2s_syntax.specs.declared.formula.TextFormula.TheVariants as formula
@@ -222,6 +223,20 @@ each_resolved names [] = Ok []
 each_resolved names (f ∷ formulas) =
     f names >>= λ first. each_resolved names formulas >>= λ others. Ok (first ∷ others)
 
+-- an atom as it is, or its negation
+abbrev pub stated : Atom → Found TextFormula
+stated a = Ok (formula.Atom a)
+
+abbrev pub denied : Atom → Found TextFormula
+denied a = Ok (formula.Not (formula.Atom a))
+
+-- the parts from the left
+abbrev pub resolved_implies : Resolving → Resolving → Resolving
+resolved_implies f g names = f names >>= λ left. g names >>= λ right. Ok (formula.Implies left right)
+
+abbrev pub resolved_chain : Connective → Resolving → List Resolving → Resolving
+resolved_chain c f others names = f names >>= λ first. each_resolved names others >>= λ rest. Ok (formula.Chain c first rest)
+
 -- a quantifier's names come first, and are visible in what it governs alone
 abbrev pub resolved_quantified : ℕ → Quantifier → List SourceName → Resolving → Resolving
 resolved_quantified outer q bound_names f names =
@@ -230,22 +245,28 @@ resolved_quantified outer q bound_names f names =
 -- the parts from the left
 abbrev pub resolved_node : ℕ → SourceFormula-F Resolving → Resolving
 resolved_node outer (SourceFormula-F.Truth b) names = Ok (formula.Atom (atom.Truth b))
-resolved_node outer (SourceFormula-F.Empty x) names = resolved_empty names x >>= λ a. Ok (formula.Atom a)
-resolved_node outer (SourceFormula-F.Same t u) names = resolved_same names t u >>= λ a. Ok (formula.Atom a)
-resolved_node outer (SourceFormula-F.Differ t u) names = resolved_same names t u >>= λ a. Ok (formula.Not (formula.Atom a))
-resolved_node outer (SourceFormula-F.In t x) names = resolved_in names t x >>= λ a. Ok (formula.Atom a)
-resolved_node outer (SourceFormula-F.NotIn t x) names = resolved_in names t x >>= λ a. Ok (formula.Not (formula.Atom a))
-resolved_node outer (SourceFormula-F.Sub t x) names = resolved_sub names t x >>= λ a. Ok (formula.Atom a)
-resolved_node outer (SourceFormula-F.Use p terms) names = resolved_use names p terms >>= λ a. Ok (formula.Atom a)
+resolved_node outer (SourceFormula-F.Empty x) names = resolved_empty names x >>= stated
+resolved_node outer (SourceFormula-F.Same t u) names = resolved_same names t u >>= stated
+resolved_node outer (SourceFormula-F.Differ t u) names = resolved_same names t u >>= denied
+resolved_node outer (SourceFormula-F.In t x) names = resolved_in names t x >>= stated
+resolved_node outer (SourceFormula-F.NotIn t x) names = resolved_in names t x >>= denied
+resolved_node outer (SourceFormula-F.Sub t x) names = resolved_sub names t x >>= stated
+resolved_node outer (SourceFormula-F.Use p terms) names = resolved_use names p terms >>= stated
 resolved_node outer (SourceFormula-F.Not f) names = f names >>= λ inner. Ok (formula.Not inner)
-resolved_node outer (SourceFormula-F.Implies f g) names = f names >>= λ left. g names >>= λ right. Ok (formula.Implies left right)
-resolved_node outer (SourceFormula-F.Chain c f others) names =
-    f names >>= λ first. each_resolved names others >>= λ rest. Ok (formula.Chain c first rest)
+resolved_node outer (SourceFormula-F.Implies f g) names = resolved_implies f g names
+resolved_node outer (SourceFormula-F.Chain c f others) names = resolved_chain c f others names
 resolved_node outer (SourceFormula-F.Quantified q bound_names f) names = resolved_quantified outer q bound_names f names
 
 -- a formula of an item, outside of which `outer` names are visible
 unfoldable pub resolved_formula : ℕ → SourceFormula → Resolving
 resolved_formula outer = fold-SourceFormula Resolving (resolved_node outer)
+
+-- two formulas of which the one implies the other, and a chain
+abbrev pub implication_resolved : ℕ → SourceFormula → SourceFormula → Resolving
+implication_resolved outer f g = resolved_implies (resolved_formula outer f) (resolved_formula outer g)
+
+abbrev pub chain_resolved : ℕ → Connective → SourceFormula → List SourceFormula → Resolving
+chain_resolved outer c f others = resolved_chain c (resolved_formula outer f) (map (resolved_formula outer) others)
 
 -- ---- items
 

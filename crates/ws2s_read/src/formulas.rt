@@ -3,7 +3,8 @@
 ghost use Rattle.std.specs.Prelude.{◌≡◌, map, length, IfOk, IfErr, OnOk};
 ghost use Rattle.ws2s_syntax.specs.declared.formula.TextFormula.TheVariants as text_formula;
 ghost use Rattle.ws2s_syntax.specs.Checked.{class_bound};
-ghost use Rattle.ws2s_read.specs.Resolving.{IsStop, bound, all_bound, parameters_bound, each_resolved, resolved_formula, resolved_quantified};
+ghost use Rattle.ws2s_read.specs.Resolving.{IsStop, ◌>>=◌, bound, all_bound, parameters_bound, resolved_same, resolved_in, denied};
+ghost use Rattle.ws2s_read.specs.Resolving.{each_resolved, resolved_formula, implication_resolved, chain_resolved, resolved_quantified};
 
 use crate::atoms::{resolve_empty, resolve_in, resolve_same, resolve_sub, resolve_use};
 use crate::names::{Meaning, Names, number};
@@ -12,7 +13,7 @@ use plain_data::{Boxed, Items};
 use std::alloc::{AllocError, Global};
 use ws2s_syntax::{
     Atom, Class, Connective, Name, Quantifier, SourceFormula, SourceName, SourceParameter,
-    TextFormula,
+    SourceTerm, TextFormula,
 };
 
 /// What a quantifier's names stand for.
@@ -72,6 +73,45 @@ fn negated(alloc: Global, atom: Atom) -> Result<TextFormula, AllocError>
     Ok(TextFormula::Not(Boxed::new(alloc, TextFormula::Atom(atom))?))
 }
 
+fn implication(
+    alloc: Global,
+    one: TextFormula,
+    other: TextFormula,
+) -> Result<TextFormula, AllocError>
+    ensures { IfOk result (λ made. made ≡ text_formula.Implies one other) }
+{
+    let one = Boxed::new(alloc, one)?;
+    Ok(TextFormula::Implies(one, Boxed::new(alloc, other)?))
+}
+
+/// Two terms that differ.
+fn resolve_differ(
+    alloc: Global,
+    names: &Names,
+    left: &SourceTerm,
+    right: &SourceTerm,
+) -> Result<TextFormula, TextStop>
+    ensures formula { IfOk result (λ found. (resolved_same names.now left.now right.now >>= denied) ≡ Ok found) }
+    ensures stop { IfErr result (IsStop (resolved_same names.now left.now right.now >>= denied)) }
+{
+    let atom = resolve_same(alloc, names, left, right)?;
+    Ok(negated(alloc, atom)?)
+}
+
+/// A position that isn't in a set.
+fn resolve_not_in(
+    alloc: Global,
+    names: &Names,
+    term: &SourceTerm,
+    set: &SourceName,
+) -> Result<TextFormula, TextStop>
+    ensures formula { IfOk result (λ found. (resolved_in names.now term.now set.now >>= denied) ≡ Ok found) }
+    ensures stop { IfErr result (IsStop (resolved_in names.now term.now set.now >>= denied)) }
+{
+    let atom = resolve_in(alloc, names, term, set)?;
+    Ok(negated(alloc, atom)?)
+}
+
 /// The others of a chain.
 #[cycle(resolving)]
 fn resolve_others(
@@ -90,6 +130,44 @@ fn resolve_others(
         resolved.push(formula)?;
     }
     Ok(resolved)
+}
+
+/// The first of a chain, and then the others.
+#[cycle(resolving)]
+fn resolve_chain(
+    alloc: Global,
+    names: &mut Names,
+    outer: usize,
+    connective: Connective,
+    first: &SourceFormula,
+    others: &[SourceFormula],
+) -> Result<TextFormula, TextStop>
+    ensures formula { IfOk result (λ found. chain_resolved outer connective first.now others.now names.old ≡ Ok found) }
+    ensures stop { IfErr result (IsStop (chain_resolved outer connective first.now others.now names.old)) }
+    ensures names_stay { OnOk result (names.new ≡ names.old) }
+{
+    let one = resolve_formula(alloc, names, outer, first)?;
+    let boxed = Boxed::new(alloc, one)?;
+    let more = resolve_others(alloc, names, outer, others)?;
+    Ok(TextFormula::Chain(connective, boxed, more))
+}
+
+/// The left side of an implication, and then the right.
+#[cycle(resolving)]
+fn resolve_implies(
+    alloc: Global,
+    names: &mut Names,
+    outer: usize,
+    left: &SourceFormula,
+    right: &SourceFormula,
+) -> Result<TextFormula, TextStop>
+    ensures formula { IfOk result (λ found. implication_resolved outer left.now right.now names.old ≡ Ok found) }
+    ensures stop { IfErr result (IsStop (implication_resolved outer left.now right.now names.old)) }
+    ensures names_stay { OnOk result (names.new ≡ names.old) }
+{
+    let one = resolve_formula(alloc, names, outer, left)?;
+    let other = resolve_formula(alloc, names, outer, right)?;
+    Ok(implication(alloc, one, other)?)
 }
 
 /// The bound names first, in order, and then what the quantifier governs, where they are visible.
@@ -133,18 +211,12 @@ pub fn resolve_formula(
             let atom = resolve_same(alloc, names, left, right)?;
             Ok(TextFormula::Atom(atom))
         }
-        SourceFormula::Differ(left, right) => {
-            let atom = resolve_same(alloc, names, left, right)?;
-            Ok(negated(alloc, atom)?)
-        }
+        SourceFormula::Differ(left, right) => resolve_differ(alloc, names, left, right),
         SourceFormula::In(term, set) => {
             let atom = resolve_in(alloc, names, term, set)?;
             Ok(TextFormula::Atom(atom))
         }
-        SourceFormula::NotIn(term, set) => {
-            let atom = resolve_in(alloc, names, term, set)?;
-            Ok(negated(alloc, atom)?)
-        }
+        SourceFormula::NotIn(term, set) => resolve_not_in(alloc, names, term, set),
         SourceFormula::Sub(term, set) => {
             let atom = resolve_sub(alloc, names, term, set)?;
             Ok(TextFormula::Atom(atom))
@@ -158,16 +230,11 @@ pub fn resolve_formula(
             Ok(TextFormula::Not(Boxed::new(alloc, formula)?))
         }
         SourceFormula::Implies(left, right) => {
-            let one = resolve_formula(alloc, names, outer, left.get())?;
-            let boxed = Boxed::new(alloc, one)?;
-            let other = resolve_formula(alloc, names, outer, right.get())?;
-            Ok(TextFormula::Implies(boxed, Boxed::new(alloc, other)?))
+            resolve_implies(alloc, names, outer, left.get(), right.get())
         }
         SourceFormula::Chain(connective, first, others) => {
-            let one = resolve_formula(alloc, names, outer, first.get())?;
-            let boxed = Boxed::new(alloc, one)?;
-            let more = resolve_others(alloc, names, outer, others.as_slice())?;
-            Ok(TextFormula::Chain(*connective, boxed, more))
+            let others = others.as_slice();
+            resolve_chain(alloc, names, outer, *connective, first.get(), others)
         }
         SourceFormula::Quantified(quantifier, bound, inner) => {
             let names_bound = bound.as_slice();
