@@ -68,7 +68,8 @@ def compiled(text, room, to):
     with open(text) as lines, open(plain, "w") as others:
         others.writelines(line for line in lines if TRAP not in line)
     subprocess.run([CLANG, "-O2", "-c", "-x", "ir", plain, "-o", object_file], check=True)
-    subprocess.run(["gcc", object_file, KIT / "c" / "liblibc_c.a", KIT / "c" / "libos_c.a", "-o", to], check=True)
+    link = [KIT / "bin" / "rattle-link", "--target", "x86_64-unknown-linux-gnu", "--toolchain", KIT / "toolchain", "-o", to, object_file]
+    subprocess.run([*link, KIT / "c" / "libos_c.a", KIT / "c" / "liblibc_c.a"], check=True, stdout=subprocess.DEVNULL)
 
 
 def stored(crate, name):
