@@ -32,10 +32,10 @@ use Rattle.store_logic.proofs.ExpandingForms.{names_at, names-Truth, names-Is, n
 use Rattle.store_logic.proofs.ExpandingForms.{names-Walk, names-Not, names-And, names-Or, names-Imp, names-Iff, names-Ex, names-All}
 use Rattle.store_logic.proofs.ExpandingForms.{names-ExSet, names-AllSet}
 use Rattle.store_logic.proofs.ExpandingLists.{all-first, all-second}
-use Rattle.pale_fitting.proofs.FitForms.{Fits-True, Fits-False, Fits-Truth, Fits-Is, Fits-Same, Fits-Member, Fits-Subset, Fits-Walk, Fits-Pred}
-use Rattle.pale_fitting.proofs.FitForms.{Fits-Not, Fits-And, Fits-Or, Fits-Imp, Fits-Iff, Fits-Ex, Fits-All, Fits-ExSet, Fits-AllSet}
-use Rattle.pale_fitting.proofs.ExpansionLemmas.{leads-of, leads-fits}
-use Rattle.pale_sights.specs.Fitting.{NameMayBe, StatedFits, FillingFits}
+use Rattle.claim_laws.proofs.FitForms.{Fits-True, Fits-False, Fits-Truth, Fits-Is, Fits-Same, Fits-Member, Fits-Subset, Fits-Walk, Fits-Pred}
+use Rattle.claim_laws.proofs.FitForms.{Fits-Not, Fits-And, Fits-Or, Fits-Imp, Fits-Iff, Fits-Ex, Fits-All, Fits-ExSet, Fits-AllSet}
+use Rattle.claim_laws.specs.Claims.{NameMayBe, StatedFits, FillingFits}
+use Rattle.claim_laws.proofs.LeadLemmas.{along-append, leads-of, leads-fits}
 
 -- ---- fields
 
@@ -65,21 +65,6 @@ no-set types ty (Cell of) f (g ∷ fields) is = by (λ s later. no-set types ty 
     by rest false o is = absurd cc
     by rest true None is = absurd cc
     by rest true (Some e) is = rest (field_sort e.kind) is
-
-along-append : (types : List TypeEntry) (start : Sort) (more fields : List FieldId) (middle : Sort) → sort_along types start more ≡ Some middle →
-    sort_along types start (more ++ fields) ≡ sort_along types middle fields
-along-append types start [] fields middle is = ap (λ o. option_and_then (λ s. sort_along types s fields) o) is
-along-append types Truth (f ∷ more) fields middle is = absurd cc
-along-append types (Set ty) (f ∷ more) fields middle is = absurd cc
-along-append types (Cell ty) (f ∷ more) fields middle is = by (f.ty.0 == ty.0) (field_at types f) (λ s. along-append types s more fields middle) is
-  where
-    by : (b : Bool) (o : Option FieldEntry) →
-        ((s : Sort) → sort_along types s more ≡ Some middle → sort_along types s (more ++ fields) ≡ sort_along types middle fields) →
-        (if b then option_and_then (λ (e : FieldEntry). sort_along types (field_sort e.kind) more) o else None) ≡ Some middle →
-        (if b then option_and_then (λ (e : FieldEntry). sort_along types (field_sort e.kind) (more ++ fields)) o else None) ≡ sort_along types middle fields
-    by false o next is = absurd cc
-    by true None next is = absurd cc
-    by true (Some e) next is = next (field_sort e.kind) is
 
 -- ---- what is put in
 

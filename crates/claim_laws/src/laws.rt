@@ -9,7 +9,7 @@ ghost use Rattle.store_logic.specs.declared.assertion.Assertion.{Assertion};
 ghost use Rattle.store_logic.specs.Sorts.{var_sort};
 ghost use Rattle.store_logic.specs.Filling.{Filling, filled};
 ghost use Rattle.store_logic.specs.Fits.{AssertionFits};
-ghost use Rattle.pale_sights.specs.Fitting.{StatedFits, FillingFits};
+ghost use Rattle.claim_laws.specs.Claims.{StatedFits, FillingFits};
 
 /// A claim of one procedure fits the variables of another where something of its sort is put in for each variable that it may name:
 /// so do `pre` and `post` of a procedure where it is called.

@@ -23,9 +23,9 @@ use Rattle.pale_text.specs.declared.place.Pos.{Pos}
 use Rattle.pale_calls.specs.declared.actual.Actual.{Actual}
 use Rattle.pale_calls.specs.declared.actual.Actual.TheVariants as actual
 use Rattle.pale_calls.specs.Classes.{class_of, holds_cell, holds_truth, is_logic}
-use Rattle.pale_types.specs.declared.typed.CallParts.{CallParts}
-use Rattle.pale_types.specs.declared.typed.ProcEntry.{ProcEntry}
-use Rattle.pale_types.specs.Fitting.{IsProgramVariable, StatedFits, FillingFits, IsLike, ActualFits, CallFits, ProcFits}
+use Rattle.pale_typed.specs.declared.typed.CallParts.{CallParts}
+use Rattle.pale_typed.specs.declared.typed.ProcEntry.{ProcEntry}
+use Rattle.pale_typed.specs.Fitting.{IsProgramVariable, StatedFits, FillingFits, IsLike, ActualFits, CallFits, ProcFits}
 use Rattle.hoare_fill.specs.declared.putting.Put.{Put}
 use Rattle.hoare_split.specs.Picking.{is_listed, is_awaited}
 use Rattle.hoare_split.specs.Settings.{settings}

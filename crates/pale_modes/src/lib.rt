@@ -16,7 +16,7 @@ mod writing;
 pub use decide::decide_text;
 pub use format::format_text;
 pub use laws::formatting_is_one;
-pub use pale_replay::push_number;
+pub use store_words::push_number;
 pub use replay::replay_text;
 pub use report::refuse;
 pub use status::Status;

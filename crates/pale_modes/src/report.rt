@@ -7,7 +7,7 @@ ghost use Rattle.pale_modes.specs.Written.{Wrote, WroteAtMost};
 use crate::Status;
 use crate::writing::say;
 use pale_io::{Sink, WriteStop};
-use pale_replay::push_number;
+use store_words::push_number;
 use pale_text::{Refusal, TextStop};
 use std::alloc::{AllocError, Global};
 

@@ -6,19 +6,20 @@ use Rattle.pale_syntax.specs.declared.tree.declaration.Parameter.{Parameter}
 use Rattle.pale_syntax.specs.declared.tree.declaration.Procedure.{Procedure}
 use Rattle.pale_tables.specs.Faults.{IsStop}
 use Rattle.pale_tables.proofs.FaultLemmas.{stop-then, stop-after, none-then}
-use Rattle.pale_types.specs.declared.basis.Basis.{Basis}
+use Rattle.pale_procedures.specs.declared.basis.Basis.{Basis}
 use Rattle.pale_sights.specs.declared.sights.Heading.{Heading}
 use Rattle.pale_sights.specs.declared.sights.Frame.{Frame}
-use Rattle.pale_sights.specs.declared.headings.Claims.{Claims}
+use Rattle.pale_procedures.specs.declared.claims.Claims.{Claims}
 use Rattle.pale_sights.specs.declared.headings.Lists.{Lists}
-use Rattle.pale_types.specs.declared.typed.ProcEntry.{ProcEntry}
+use Rattle.pale_typed.specs.declared.typed.ProcEntry.{ProcEntry}
 use Rattle.pale_sights.specs.Variables.{variable_of, variables_fault}
 use Rattle.pale_sights.specs.Sights.{frame_of}
 use Rattle.pale_sights.specs.Framing.{IsBody, IsFrame}
-use Rattle.pale_types.specs.Statements.{types_of, block_fault}
-use Rattle.pale_sights.specs.Headings.{heading_of, locals_of, heading_names, heading_fault, frame_in, claims_fault, claims_of, lists_of}
-use Rattle.pale_types.specs.Procedures.{entry_of}
-use Rattle.pale_types.specs.Procedures.{typed_procedure, procedure_fault}
+use Rattle.pale_procedures.specs.Statements.{types_of, block_fault}
+use Rattle.pale_sights.specs.Headings.{heading_of, locals_of, heading_names, heading_fault, frame_in, lists_of}
+use Rattle.pale_procedures.specs.Claims.{claims_fault, claims_of}
+use Rattle.pale_procedures.specs.Procedures.{entry_of}
+use Rattle.pale_procedures.specs.Procedures.{typed_procedure, procedure_fault}
 use Rattle.pale_sights.proofs.HeadingLemmas.{body-is, frame-in}
 
 module _ (basis : Basis) (p : Procedure) (none : heading_fault (types_of basis) p ≡ None) (h : Heading) (is : h ≡ heading_of (types_of basis) p) where

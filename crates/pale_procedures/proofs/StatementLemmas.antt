@@ -18,15 +18,15 @@ use Rattle.pale_tables.specs.Faults.{Fault, IsStop, ◌>>◌}
 use Rattle.pale_tables.proofs.FaultLemmas.{stop-then, stop-after, none-then}
 use Rattle.pale_acts.specs.Conditions.{condition_fault, typed_condition}
 use Rattle.pale_acts.specs.Assignments.{assignment_fault, assignment_of, free_fault, free_of}
-use Rattle.pale_predicates.specs.Predicates.{bracketed_fault}
-use Rattle.pale_types.specs.declared.typed.Stmt.{Stmt}
-use Rattle.pale_types.specs.declared.typed.Stmt.TheVariants as stmt
-use Rattle.pale_types.specs.declared.basis.Basis.{Basis}
+use Rattle.pale_vocabulary.specs.Predicates.{bracketed_fault}
+use Rattle.pale_typed.specs.declared.typed.Stmt.{Stmt}
+use Rattle.pale_typed.specs.declared.typed.Stmt.TheVariants as stmt
+use Rattle.pale_procedures.specs.declared.basis.Basis.{Basis}
 use Rattle.pale_sights.specs.declared.sights.Frame.{Frame}
-use Rattle.pale_sights.specs.Stated.{stated}
+use Rattle.pale_procedures.specs.Stated.{stated}
 use Rattle.pale_sights.specs.Framing.{AreOfATable, IsFrame}
-use Rattle.pale_types.specs.Statements.{types_of, parts_of, parts_fault, typing_rules, typed_statement, typed_block, block_rule}
-use Rattle.pale_types.specs.Statements.{fault_rules, statement_fault, block_fault}
+use Rattle.pale_procedures.specs.Statements.{types_of, parts_of, parts_fault, typing_rules, typed_statement, typed_block, block_rule}
+use Rattle.pale_procedures.specs.Statements.{fault_rules, statement_fault, block_fault}
 
 -- what assertions of a frame name are variables of its table
 pub frame-variables : (frame : Frame) → IsFrame frame → AreOfATable frame.stated

@@ -4,16 +4,17 @@ use Rattle.std.specs.Prelude.{List}
 use Rattle.pale_syntax.specs.declared.tree.declaration.Procedure.{Procedure}
 use Rattle.store_core.specs.Tables.{VarEntry}
 use Rattle.pale_tables.specs.Faults.{Fault, ◌>>◌}
-use Rattle.pale_types.specs.declared.basis.Basis.{Basis}
+use Rattle.pale_procedures.specs.declared.basis.Basis.{Basis}
 use Rattle.pale_sights.specs.declared.sights.Heading.{Heading}
 use Rattle.pale_sights.specs.declared.sights.Frame.{Frame}
-use Rattle.pale_sights.specs.declared.headings.Claims.{Claims}
+use Rattle.pale_procedures.specs.declared.claims.Claims.{Claims}
 use Rattle.pale_sights.specs.declared.headings.Lists.{Lists}
-use Rattle.pale_types.specs.declared.typed.ProcEntry.{ProcEntry}
+use Rattle.pale_typed.specs.declared.typed.ProcEntry.{ProcEntry}
 use Rattle.pale_sights.specs.Variables.{variables_fault}
 use Rattle.pale_sights.specs.Sights.{frame_of}
-use Rattle.pale_types.specs.Statements.{types_of, typed_block, block_fault}
-pub use Rattle.pale_sights.specs.Headings.{heading_of, locals_of, heading_names, heading_fault, frame_in, claims_of, claims_fault, lists_of}
+use Rattle.pale_procedures.specs.Statements.{types_of, typed_block, block_fault}
+use Rattle.pale_sights.specs.Headings.{heading_of, locals_of, heading_names, heading_fault, frame_in, lists_of}
+use Rattle.pale_procedures.specs.Claims.{claims_of, claims_fault}
 
 -- ---- procedures
 

@@ -6,9 +6,9 @@ use Rattle.store_logic.specs.declared.assertion.Assertion.TheVariants as asserti
 use Rattle.store_logic.specs.Expansion.{expansion}
 use Rattle.pale_tables.specs.Faults.{Fault}
 use Rattle.pale_terms.specs.Visibles.{Entry}
-use Rattle.pale_assertions.specs.Assertions.{typed_assertion}
-use Rattle.pale_predicates.specs.declared.predicates.Declared.{Declared}
-use Rattle.pale_predicates.specs.Predicates.{bracketed_fault}
+use Rattle.pale_vocabulary.specs.Assertions.{typed_assertion}
+use Rattle.pale_vocabulary.specs.declared.vocabulary.Declared.{Declared}
+use Rattle.pale_vocabulary.specs.Predicates.{bracketed_fault}
 
 -- the assertion with its names looked up and the predicates put in
 unfoldable pub stated : Declared → List Entry → Bracketed → Assertion

@@ -13,15 +13,15 @@ use Rattle.pale_tables.specs.Faults.{Fault, ◌>>◌, first_of}
 use Rattle.pale_terms.specs.Visibles.{Entry}
 use Rattle.pale_acts.specs.Conditions.{condition_fault, typed_condition}
 use Rattle.pale_acts.specs.Assignments.{assignment_fault, assignment_of, free_fault, free_of}
-use Rattle.pale_predicates.specs.Predicates.{bracketed_fault}
+use Rattle.pale_vocabulary.specs.Predicates.{bracketed_fault}
 use Rattle.pale_calls.specs.declared.calls.CallHead.{CallHead}
 use Rattle.pale_calls.specs.Calls.{call_fault, call_of, touched, allowed_each}
-use Rattle.pale_types.specs.declared.typed.CallParts.{CallParts}
-use Rattle.pale_types.specs.declared.typed.Stmt.{Stmt}
-use Rattle.pale_types.specs.declared.typed.Stmt.TheVariants as stmt
-use Rattle.pale_types.specs.declared.basis.Basis.{Basis}
+use Rattle.pale_typed.specs.declared.typed.CallParts.{CallParts}
+use Rattle.pale_typed.specs.declared.typed.Stmt.{Stmt}
+use Rattle.pale_typed.specs.declared.typed.Stmt.TheVariants as stmt
+use Rattle.pale_procedures.specs.declared.basis.Basis.{Basis}
 use Rattle.pale_sights.specs.declared.sights.Frame.{Frame}
-use Rattle.pale_sights.specs.Stated.{stated, stated_or_true, stated_fault}
+use Rattle.pale_procedures.specs.Stated.{stated, stated_or_true, stated_fault}
 
 -- the types of the program
 abbrev pub types_of : Basis → List TypeEntry

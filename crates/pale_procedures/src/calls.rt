@@ -4,16 +4,17 @@ ghost use Rattle.std.specs.Prelude.{◌≡◌, None, IfOk, IfErr, OnOk};
 ghost use Rattle.pale_tables.specs.Faults.{IsStop};
 ghost use Rattle.pale_fitting.specs.Declaring.{DeclarationsFit};
 ghost use Rattle.pale_sights.specs.Framing.{IsFrame};
-ghost use Rattle.pale_sights.specs.Stated.{stated_fault, stated_or_true};
-ghost use Rattle.pale_types.specs.Statements.{keep_sight, parts_of, parts_fault};
+ghost use Rattle.pale_procedures.specs.Stated.{stated_fault, stated_or_true};
+ghost use Rattle.pale_procedures.specs.Statements.{keep_sight, parts_of, parts_fault};
 
 use crate::basis::Basis;
-use crate::typed::{CallParts, Stmt};
+use crate::stated::read_optional;
 use pale_calls::{allow_touched, read_call};
-use pale_predicates::Declared;
-use pale_sights::{Frame, read_optional};
+use pale_vocabulary::Declared;
+use pale_sights::Frame;
 use pale_syntax::Call;
 use pale_text::TextStop;
+use pale_typed::{CallParts, Stmt};
 use std::alloc::Global;
 use store_logic::Assertion;
 

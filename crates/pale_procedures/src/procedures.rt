@@ -6,19 +6,19 @@ ghost use Rattle.pale_fitting.specs.Declaring.{DeclarationsFit};
 ghost use Rattle.pale_sights.specs.Sights.{frame_of};
 ghost use Rattle.pale_sights.specs.Framing.{IsBody, IsFrame};
 ghost use Rattle.pale_sights.specs.Headings.{heading_of, heading_names, heading_fault};
-ghost use Rattle.pale_types.specs.Statements.{types_of, block_fault};
-ghost use Rattle.pale_types.specs.Procedures.{entry_of, entry_with, typed_procedure, procedure_fault};
+ghost use Rattle.pale_procedures.specs.Statements.{types_of, block_fault};
+ghost use Rattle.pale_procedures.specs.Procedures.{entry_of, entry_with, typed_procedure, procedure_fault};
 
 use crate::basis::Basis;
+use crate::claims::{Claims, read_claims};
 use crate::statements::read_block;
-use crate::typed::{ProcEntry, TypedProc};
 use pale_sights::{
-    Claims, Frame, Heading, Lists, Variable, frame_of, lists_of, read_claims, read_heading,
-    read_variables,
+    Frame, Heading, Lists, Variable, frame_of, lists_of, read_heading, read_variables,
 };
 use pale_syntax::Procedure;
 use pale_tables::Names;
 use pale_text::TextStop;
+use pale_typed::{ProcEntry, TypedProc};
 use plain_data::Items;
 use std::alloc::Global;
 
@@ -125,7 +125,7 @@ fn read_procedure(
 /// # Errors
 ///
 /// `Refused` is the first fault: in each procedure its parameters, results, logic variables, `pre`, `post`, locals and statements.
-pub(crate) fn read_procedures(
+pub fn read_procedures(
     alloc: Global,
     basis: &Basis,
     procedures: &[&Procedure],

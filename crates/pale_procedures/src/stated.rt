@@ -2,13 +2,13 @@
 
 ghost use Rattle.std.specs.Prelude.{◌≡◌, None, IfOk, IfErr, OnOk};
 ghost use Rattle.pale_tables.specs.Faults.{IsStop};
-ghost use Rattle.pale_predicates.specs.Predicates.{bracketed_fault};
+ghost use Rattle.pale_vocabulary.specs.Predicates.{bracketed_fault};
 ghost use Rattle.pale_fitting.specs.Declaring.{DeclarationsFit};
 ghost use Rattle.pale_sights.specs.Framing.{AreOfATable};
-ghost use Rattle.pale_sights.specs.Stated.{stated, stated_or_true, stated_fault};
+ghost use Rattle.pale_procedures.specs.Stated.{stated, stated_or_true, stated_fault};
 
 use pale_assertions::read_assertion;
-use pale_predicates::Declared;
+use pale_vocabulary::Declared;
 use pale_syntax::Bracketed;
 use pale_terms::Scope;
 use pale_text::{Refusal, RefusalKind, TextStop};
@@ -22,7 +22,7 @@ use store_logic::Assertion;
 ///
 /// `Refused` is the first fault of the assertion, and then `big-formula` at its `[` where it has more than 65,536 nodes with its
 /// predicates put in, the nodes of each side of a `<=>` counted twice.
-#[tactic(auto, unfolding(pale_predicates::specs::Predicates::bracketed_fault, crate::specs::Stated::stated))]
+#[tactic(auto, unfolding(pale_vocabulary::specs::Predicates::bracketed_fault, crate::specs::Stated::stated))]
 pub fn read_stated(
     alloc: Global,
     declared: &Declared,

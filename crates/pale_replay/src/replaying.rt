@@ -9,7 +9,7 @@ use crate::answer::Replay;
 use crate::lines::{store_refused, told};
 use crate::parts::{cut_text, split_line, triple_in};
 use crate::stores::replay_store;
-use hoare_split::{WholeProgram, read_program};
+use whole_program::{WholeProgram, read_program};
 use pale_text::TextStop;
 use std::alloc::{AllocError, Global};
 use store_exec::Triple;

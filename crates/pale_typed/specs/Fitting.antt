@@ -7,15 +7,15 @@ use Rattle.store_core.specs.declared.ids.VarId.{VarId}
 use Rattle.store_core.specs.Tables.{TypeEntry, VarEntry, var_names, AreDistinct, IsTypeTable}
 use Rattle.store_logic.specs.Fits.{AssertionFits, KnowsVars}
 use Rattle.store_logic.specs.FitsCode.{CondFits, ActFits}
-use Rattle.pale_types.specs.declared.typed.CallParts.{CallParts}
-use Rattle.pale_types.specs.declared.typed.ProcEntry.{ProcEntry}
-use Rattle.pale_types.specs.declared.typed.Stmt.{Stmt}
-use Rattle.pale_types.specs.declared.typed.Stmt.TheOpen.{Stmt-F}
-use Rattle.pale_types.specs.declared.typed.Stmt.TheFolds.{rec-Stmt}
-use Rattle.pale_types.specs.TypedPrograms.{TypedProgram}
-use Rattle.pale_sights.specs.Sights.{numbers}
-pub use Rattle.pale_sights.specs.Fitting.{kind_at, IsOfClass, IsLogicVariable, IsProgramVariable, NameMayBe, StatedFits, FillingFits}
-pub use Rattle.pale_sights.specs.Fitting.{IsLike, ActualFits, cell_in, cells_in, KindFits, FieldsFit}
+use Rattle.pale_typed.specs.declared.typed.CallParts.{CallParts}
+use Rattle.pale_typed.specs.declared.typed.ProcEntry.{ProcEntry}
+use Rattle.pale_typed.specs.declared.typed.Stmt.{Stmt}
+use Rattle.pale_typed.specs.declared.typed.Stmt.TheOpen.{Stmt-F}
+use Rattle.pale_typed.specs.declared.typed.Stmt.TheFolds.{rec-Stmt}
+use Rattle.pale_typed.specs.TypedPrograms.{TypedProgram}
+pub use Rattle.claim_laws.specs.Claims.{NameMayBe, StatedFits, FillingFits}
+pub use Rattle.pale_typed.specs.Variables.{numbers, kind_at, IsOfClass, IsLogicVariable, IsProgramVariable, IsLike, ActualFits, cell_in, cells_in}
+pub use Rattle.pale_typed.specs.Variables.{KindFits, FieldsFit}
 
 -- ---- calls
 

@@ -1,6 +1,5 @@
--- When what a procedure names fits: variables, claims, what is put in for their variables and what a call hands over, and the routes
--- of pointer fields.
-use Rattle.std.specs.Prelude.{◌≡◌, Bool, IsTrue, false, not, List, [], ◌∷◌, flat_map}
+-- When what a procedure names fits: variables and their numbers, what a call hands over, and the routes of pointer fields.
+use Rattle.std.specs.Prelude.{◌≡◌, ℕ, ◌+◌, Bool, IsTrue, false, not, List, [], ◌∷◌, flat_map}
 use Rattle.std.specs.Prelude.{Option, Some, option_map, IsSomeAnd, if◌then◌else◌}
 use Rattle.std.specs.Option.{option_map_or}
 use Rattle.std.specs.List.{AllByRecursion}
@@ -9,19 +8,18 @@ use Rattle.store_core.specs.declared.kind.FieldKind.{FieldKind}
 use Rattle.store_core.specs.declared.kind.FieldKind.TheVariants as field
 use Rattle.store_core.specs.declared.kind.VarKind.{VarKind}
 use Rattle.store_core.specs.Tables.{TypeEntry, FieldEntry, VarEntry, var_at}
-use Rattle.store_logic.specs.declared.term.Base.{Base}
-use Rattle.store_logic.specs.declared.term.Base.TheVariants as base
-use Rattle.store_logic.specs.declared.assertion.Assertion.{Assertion}
-use Rattle.store_logic.specs.Uses.{names_in}
-use Rattle.store_logic.specs.Filling.{Filling, of_term, of_truth}
-use Rattle.store_logic.specs.Sorts.{Sort, Truth, scope_of, TermFits}
-use Rattle.store_logic.specs.Fits.{AssertionFits, RouteFits}
+use Rattle.store_logic.specs.Fits.{RouteFits}
 use Rattle.pale_calls.specs.declared.class.VarClass.{VarClass}
 use Rattle.pale_calls.specs.declared.actual.Actual.{Actual}
 use Rattle.pale_calls.specs.declared.actual.Actual.TheVariants as actual
 use Rattle.pale_calls.specs.Classes.{class_of, holds_cell, holds_truth, is_logic}
 
 -- ---- variables
+
+-- the numbers of variables, the first of which has this one
+abbrev pub numbers : ℕ → List VarEntry → List VarId
+numbers number [] = []
+numbers number (v ∷ vars) = record { 0 = number } ∷ numbers (number + 1) vars
 
 -- what a variable of the table holds
 abbrev pub kind_at : List VarEntry → VarId → Option VarKind
@@ -37,24 +35,6 @@ IsLogicVariable vars = IsOfClass is_logic vars
 -- no logic variable
 abbrev pub IsProgramVariable : List VarEntry → VarId → Type 0
 IsProgramVariable vars = IsOfClass (λ of. not (is_logic of)) vars
-
--- ---- assertions
-
--- no variable, or one of which this is so
-abbrev pub NameMayBe : (VarId → Type 0) → Base → Type 0
-NameMayBe MayBe (base.Var v) = MayBe v
-NameMayBe MayBe (base.Bound k) = Unit {0}
-NameMayBe MayBe (base.Param k) = Unit {0}
-
--- the assertion fits, and names no variable but those of which this is so
-pub record StatedFits (types : List TypeEntry) (vars : List VarEntry) (MayBe : VarId → Type 0) (a : Assertion) : Type 0 where
-  pub fits : AssertionFits types vars a
-  pub names : AllByRecursion (λ n. NameMayBe MayBe n.name) (names_in a)
-
--- what is put in for a variable of this sort: a path of the sort, null for a cell, or a truth value
-abbrev pub FillingFits : List TypeEntry → List VarEntry → Filling → Sort → Type 0
-FillingFits types vars (of_term t) sort = TermFits types (scope_of vars) t sort
-FillingFits types vars (of_truth truth) sort = sort ≡ Truth
 
 -- ---- calls
 

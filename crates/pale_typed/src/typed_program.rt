@@ -20,8 +20,8 @@ impl Model for Typed {
     ghost use Rattle.store_core.specs.contracts.kind.Route as route;
     ghost use Rattle.store_logic.specs.contracts.assertion.Assertion as assertion;
     ghost use Rattle.store_logic.specs.contracts.cond.Cond as cond;
-    ghost use Rattle.pale_types.specs.contracts.typed.Stmt as stmt;
-    ghost use Rattle.pale_types.specs.TypedPrograms.{TypedProgram};
+    ghost use Rattle.pale_typed.specs.contracts.typed.Stmt as stmt;
+    ghost use Rattle.pale_typed.specs.TypedPrograms.{TypedProgram};
 
     ghost Value = { TypedProgram };
 
@@ -32,7 +32,7 @@ impl Model for Typed {
 
 impl Typed {
     /// These types and procedures. Takes no memory.
-    pub(crate) fn new(types: TypeTable, procs: Items<ProcEntry>) -> Typed
+    pub fn new(types: TypeTable, procs: Items<ProcEntry>) -> Typed
         ensures { result ≡ record { types = types; procs = procs } }
     {
         Typed { types, procs }

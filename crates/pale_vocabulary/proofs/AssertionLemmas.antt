@@ -15,12 +15,12 @@ use Rattle.store_logic.specs.declared.assertion.Assertion.TheVariants as asserti
 use Rattle.pale_tables.specs.Faults.{Fault, ◌>>◌, first_of}
 use Rattle.pale_terms.specs.Visibles.{Entry}
 use Rattle.pale_terms.specs.Terms.{compared_fault, variant_test_fault}
-use Rattle.pale_assertions.specs.declared.vocabulary.Vocabulary.{Vocabulary}
-use Rattle.pale_assertions.specs.declared.connectives.Connective.TheVariants as connective
-use Rattle.pale_assertions.specs.Arguments.{use_fault, use_of}
-use Rattle.pale_assertions.specs.Atoms.{truth_fault, truth_of, same_of, member_fault, member_of, subset_fault, subset_of, walk_fault, walk_of, is_of}
-use Rattle.pale_assertions.specs.Connectives.{connected, chained, negated}
-use Rattle.pale_assertions.specs.Assertions.{each_in, typing_rules, fault_rules, assertion_fault, typed_assertion, inside_fault, governed}
+use Rattle.pale_vocabulary.specs.declared.vocabulary.Vocabulary.{Vocabulary}
+use Rattle.pale_vocabulary.specs.declared.connective.Connective.TheVariants as connective
+use Rattle.pale_vocabulary.specs.Arguments.{use_fault, use_of}
+use Rattle.pale_vocabulary.specs.Atoms.{truth_fault, truth_of, same_of, member_fault, member_of, subset_fault, subset_of, walk_fault, walk_of, is_of}
+use Rattle.pale_vocabulary.specs.Connectives.{connected, chained, negated}
+use Rattle.pale_vocabulary.specs.Assertions.{each_in, typing_rules, fault_rules, assertion_fault, typed_assertion, inside_fault, governed}
 
 module _ (v : Vocabulary) (scope : List Entry) where
   pub fault_form : (a : source.Assertion) (x : Assertion-F source.Assertion) → a ≡ source.roll-Assertion x →

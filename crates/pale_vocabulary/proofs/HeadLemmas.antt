@@ -7,7 +7,7 @@ use Rattle.std.specs.declared.alloc.Global.{Global}
 use Rattle.store_core.specs.Tables.{place_of}
 use Rattle.store_core.proofs.Names.{position-keys}
 use Rattle.pale_terms.specs.declared.sort.Sort.{Sort}
-use Rattle.pale_assertions.specs.Heads.{head_of, heads_of, head_names}
+use Rattle.pale_vocabulary.specs.Heads.{head_of, heads_of, head_names}
 
 -- the place of a name among the keys
 pub place-kept : (name : List ℕ) (es : List (Vec ℕ Global × List Sort)) →

@@ -6,10 +6,10 @@ use Rattle.pale_tables.specs.Names.{is_new, repeated_fault}
 use Rattle.pale_syntax.specs.declared.tree.declaration.PredicateDeclaration.{PredicateDeclaration}
 use Rattle.std.proofs.lemmas.List.{map_push}
 use Rattle.pale_tables.proofs.KnownRoutes.{both, needed}
-use Rattle.pale_assertions.specs.Heads.{Head, head_names}
-use Rattle.pale_predicates.specs.declared.predicates.Declared.{Declared}
-use Rattle.pale_predicates.specs.Parameters.{sort_of}
-use Rattle.pale_predicates.specs.Predicates.{with_pred}
+use Rattle.pale_vocabulary.specs.Heads.{Head, head_names}
+use Rattle.pale_vocabulary.specs.declared.vocabulary.Declared.{Declared}
+use Rattle.pale_vocabulary.specs.Parameters.{sort_of}
+use Rattle.pale_vocabulary.specs.Predicates.{with_pred}
 
 none_from : (place : Option ℕ) → is_none place ≡ true → place ≡ None
 none_from None is = refl

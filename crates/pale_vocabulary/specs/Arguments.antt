@@ -15,8 +15,8 @@ use Rattle.pale_terms.specs.Sorts.{is_truth, is_cell, are_of_one_type}
 use Rattle.pale_terms.specs.Visibles.{Entry}
 use Rattle.pale_terms.specs.Scopes.{meaning_of}
 use Rattle.pale_terms.specs.Terms.{typed_path, term_at, path_fault, set_path_fault}
-use Rattle.pale_assertions.specs.declared.vocabulary.Vocabulary.{Vocabulary}
-use Rattle.pale_assertions.specs.Heads.{head_names, params_at}
+use Rattle.pale_vocabulary.specs.declared.vocabulary.Vocabulary.{Vocabulary}
+use Rattle.pale_vocabulary.specs.Heads.{head_names, params_at}
 
 -- ---- an argument for a parameter of a sort
 

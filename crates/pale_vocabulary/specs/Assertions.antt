@@ -9,12 +9,12 @@ use Rattle.store_logic.specs.declared.assertion.Assertion.TheVariants as asserti
 use Rattle.pale_tables.specs.Faults.{Fault, ◌>>◌, first_of}
 use Rattle.pale_terms.specs.Visibles.{Entry}
 use Rattle.pale_terms.specs.Terms.{compared_fault, variant_test_fault}
-use Rattle.pale_assertions.specs.declared.vocabulary.Vocabulary.{Vocabulary}
-use Rattle.pale_assertions.specs.declared.connectives.Connective.TheVariants as connective
-use Rattle.pale_assertions.specs.Arguments.{use_fault, use_of}
-use Rattle.pale_assertions.specs.Atoms.{truth_fault, truth_of, same_of, member_fault, member_of, subset_fault, subset_of, walk_fault, walk_of, is_of}
-use Rattle.pale_assertions.specs.Connectives.{connected, chained, negated, quantified}
-use Rattle.pale_assertions.specs.Quantifiers.{quantifier_fault, bound_type, inside}
+use Rattle.pale_vocabulary.specs.declared.vocabulary.Vocabulary.{Vocabulary}
+use Rattle.pale_vocabulary.specs.declared.connective.Connective.TheVariants as connective
+use Rattle.pale_vocabulary.specs.Arguments.{use_fault, use_of}
+use Rattle.pale_vocabulary.specs.Atoms.{truth_fault, truth_of, same_of, member_fault, member_of, subset_fault, subset_of, walk_fault, walk_of, is_of}
+use Rattle.pale_vocabulary.specs.Connectives.{connected, chained, negated, quantified}
+use Rattle.pale_vocabulary.specs.Quantifiers.{quantifier_fault, bound_type, inside}
 
 -- ---- what an assertion is typed as
 

@@ -22,7 +22,7 @@ use Rattle.pale_terms.specs.Visibles.{Entry}
 use Rattle.pale_terms.specs.Scopes.{meaning_of, set_fault}
 use Rattle.pale_terms.specs.Terms.{typed_path, typed_term, term_at, term_in, cell_type, variant_test}
 use Rattle.pale_terms.specs.Terms.{path_fault, reference_fault, cell_fault, set_path_fault}
-use Rattle.pale_assertions.specs.declared.vocabulary.Vocabulary.{Vocabulary}
+use Rattle.pale_vocabulary.specs.declared.vocabulary.Vocabulary.{Vocabulary}
 
 -- a path alone is a truth value
 unfoldable pub truth_fault : List TypeEntry → List Entry → Path → Fault

@@ -6,8 +6,8 @@ use Rattle.pale_syntax.specs.declared.tree.assertion.QuantifierKind.TheVariants 
 use Rattle.store_core.specs.declared.ids.TypeId.{TypeId}
 use Rattle.store_logic.specs.declared.assertion.Assertion.{Assertion}
 use Rattle.store_logic.specs.declared.assertion.Assertion.TheVariants as assertion
-use Rattle.pale_assertions.specs.declared.connectives.Connective.{Connective}
-use Rattle.pale_assertions.specs.declared.connectives.Connective.TheVariants as connective
+use Rattle.pale_vocabulary.specs.declared.connective.Connective.{Connective}
+use Rattle.pale_vocabulary.specs.declared.connective.Connective.TheVariants as connective
 
 abbrev pub connected : Connective → Assertion → Assertion → Assertion
 connected connective.And a b = assertion.And a b

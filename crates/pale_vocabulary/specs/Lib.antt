@@ -4,3 +4,5 @@ pub mod Atoms
 pub mod Connectives
 pub mod Quantifiers
 pub mod Assertions
+pub mod Parameters
+pub mod Predicates

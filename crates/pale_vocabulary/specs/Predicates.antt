@@ -11,10 +11,10 @@ use Rattle.pale_tables.specs.declared.type_names.TypeNames.{TypeNames}
 use Rattle.pale_tables.specs.Faults.{Fault, need, ◌>>◌}
 use Rattle.pale_terms.specs.declared.sort.Sort.{Sort}
 use Rattle.pale_terms.specs.Visibles.{Entry}
-use Rattle.pale_assertions.specs.declared.vocabulary.Vocabulary.{Vocabulary}
-use Rattle.pale_assertions.specs.Assertions.{assertion_fault, typed_assertion}
-use Rattle.pale_predicates.specs.declared.predicates.Declared.{Declared}
-use Rattle.pale_predicates.specs.Parameters.{sort_of, scope_of, parameters_fault}
+use Rattle.pale_vocabulary.specs.declared.vocabulary.Vocabulary.{Vocabulary}
+use Rattle.pale_vocabulary.specs.Assertions.{assertion_fault, typed_assertion}
+use Rattle.pale_vocabulary.specs.declared.vocabulary.Declared.{Declared}
+use Rattle.pale_vocabulary.specs.Parameters.{sort_of, scope_of, parameters_fault}
 
 -- ---- assertions in their brackets
 

@@ -1,8 +1,8 @@
-//! What assertions may use.
+//! What assertions may use, and what a program declares.
 
 ghost use Rattle.std.specs.Prelude.{◌≡◌, [], ◌∷◌, ◌++◌, None, length, OnOk, OnErr};
 ghost use Rattle.store_core.specs.Tables.{place_of};
-ghost use Rattle.pale_assertions.specs.Heads.{head_names, params_at};
+ghost use Rattle.pale_vocabulary.specs.Heads.{head_names, params_at};
 
 use indexmap::IndexMap;
 use pale_tables::TypeNames;
@@ -11,6 +11,7 @@ use plain_data::Items;
 use std::alloc::{AllocError, Global};
 use std::marker::Model;
 use store_core::TypeTable;
+use store_expand::SizedPreds;
 
 /// The predicates that are declared, each with the sorts of its parameters. The place of one, counted from 0, is its number.
 #[derive(Drop)]
@@ -20,7 +21,7 @@ pub struct PredHeads {
 
 impl Model for PredHeads {
     ghost use Rattle.std.specs.Prelude.{List};
-    ghost use Rattle.pale_assertions.specs.Heads.{Head, heads_of};
+    ghost use Rattle.pale_vocabulary.specs.Heads.{Head, heads_of};
 
     ghost Value = { List Head };
 
@@ -79,4 +80,12 @@ pub struct Vocabulary {
     pub types: TypeTable,
     pub names: TypeNames,
     pub preds: PredHeads,
+}
+
+/// What a program declares besides its procedures: what assertions may use, and the predicates with their bodies.
+#[derive(Drop)]
+pub struct Declared {
+    pub vocabulary: Vocabulary,
+    /// In each body predicates stand as uses of those before it.
+    pub preds: SizedPreds,
 }

@@ -26,8 +26,8 @@ use Rattle.witness_store.specs.Alike.{AreFunctional}
 use Rattle.field_judge.specs.OneEach.{type_vars}
 use Rattle.field_judge.specs.Judging.{formula_of, HasFieldPeak, IsLeastFork}
 use Rattle.triple_judge.specs.Judging.{HasTriplePeak}
-use Rattle.pale_types.specs.declared.typed.ProcEntry.{ProcEntry}
-use Rattle.pale_types.specs.TypedPrograms.{TypedProgram}
+use Rattle.pale_typed.specs.declared.typed.ProcEntry.{ProcEntry}
+use Rattle.pale_typed.specs.TypedPrograms.{TypedProgram}
 use Rattle.program_judge.specs.declared.ways.FieldWay.{FieldWay}
 use Rattle.program_judge.specs.declared.ways.FieldWay.TheVariants as fielded
 use Rattle.program_judge.specs.declared.ways.TripleWay.{TripleWay}

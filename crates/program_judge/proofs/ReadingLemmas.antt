@@ -14,9 +14,9 @@ use Rattle.pale_text.specs.declared.token.TokenList.{TokenList}
 use Rattle.pale_text.specs.Lexing.{IsLexed, IsStrayAt}
 use Rattle.store_exec.specs.declared.triple.Triple.{Triple}
 use Rattle.pale_types.specs.Programs.{program_fault, typed_program}
-use Rattle.pale_types.specs.TypedPrograms.{TypedProgram}
+use Rattle.pale_typed.specs.TypedPrograms.{TypedProgram}
 use Rattle.hoare_split.specs.Triples.{split_fault, triples_of}
-use Rattle.hoare_split.specs.ProgramTexts.{IsTextOf, IsReadAs, IsRefusedAs, stray, unparsed, untyped, too_long}
+use Rattle.whole_program.specs.ProgramTexts.{IsTextOf, IsReadAs, IsRefusedAs, stray, unparsed, untyped, too_long}
 
 -- tokens that are a program with few levels aren't refused
 pub none_refused : (list : TokenList) (tree : Program) (r : Refusal) → IsParsedAs list.tokens tree → IsParseStop list (Refused r) → ⊥

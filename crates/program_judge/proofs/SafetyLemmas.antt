@@ -12,10 +12,10 @@ use Rattle.pale_syntax.specs.ProgramReading.{IsProgram}
 use Rattle.pale_text.specs.declared.token.TokenList.{TokenList}
 use Rattle.pale_text.specs.Lexing.{IsLexed}
 use Rattle.pale_types.specs.Programs.{program_fault, typed_program}
-use Rattle.pale_types.specs.declared.typed.ProcEntry.{ProcEntry}
-use Rattle.pale_types.specs.TypedPrograms.{TypedProgram}
+use Rattle.pale_typed.specs.declared.typed.ProcEntry.{ProcEntry}
+use Rattle.pale_typed.specs.TypedPrograms.{TypedProgram}
 use Rattle.hoare_split.specs.Triples.{triples_of}
-use Rattle.hoare_split.specs.ProgramTexts.{IsReadAs}
+use Rattle.whole_program.specs.ProgramTexts.{IsReadAs}
 use Rattle.triple_judge.specs.Judging.{IsValid}
 use Rattle.whole_run.specs.States.{Fail}
 use Rattle.whole_run.specs.Runs.{WholeRun}

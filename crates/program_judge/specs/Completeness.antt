@@ -6,9 +6,9 @@ use Rattle.store_exec.specs.declared.triple.Triple.{Triple}
 use Rattle.witness_store.specs.Alike.{AreFunctional}
 use Rattle.field_judge.specs.Judging.{HasFieldPeak}
 use Rattle.triple_judge.specs.Judging.{HasTriplePeak}
-use Rattle.pale_types.specs.declared.typed.ProcEntry.{ProcEntry}
-use Rattle.pale_types.specs.TypedPrograms.{TypedProgram}
-use Rattle.hoare_split.specs.ProgramTexts.{IsReadAs}
+use Rattle.pale_typed.specs.declared.typed.ProcEntry.{ProcEntry}
+use Rattle.pale_typed.specs.TypedPrograms.{TypedProgram}
+use Rattle.whole_program.specs.ProgramTexts.{IsReadAs}
 
 -- every pointer field is functional, and no Peak of a field or of a triple is above the limit
 pub record ArePeaksWithin (limit : ℕ) (program : TypedProgram) (triples : List Triple) : Type 0 where

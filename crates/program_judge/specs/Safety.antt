@@ -3,8 +3,8 @@ use Rattle.std.specs.Prelude.{ℕ, List}
 use Rattle.store_core.specs.Stores.{StoreMap}
 use Rattle.store_exec.specs.declared.cause.Cause.{Cause}
 use Rattle.store_exec.specs.declared.triple.Triple.{Triple}
-use Rattle.pale_types.specs.TypedPrograms.{TypedProgram}
-use Rattle.hoare_split.specs.ProgramTexts.{IsReadAs}
+use Rattle.pale_typed.specs.TypedPrograms.{TypedProgram}
+use Rattle.whole_program.specs.ProgramTexts.{IsReadAs}
 use Rattle.whole_run.specs.States.{Fail}
 use Rattle.whole_run.specs.Runs.{WholeRun}
 use Rattle.whole_run.specs.Safety.{MeetsEntry}

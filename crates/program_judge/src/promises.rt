@@ -3,8 +3,8 @@
 ghost use Rattle.std.specs.Prelude.{◌≡◌, ◌⊎◌, ℕ, List};
 ghost use Rattle.pale_text.specs.declared.refusal.Refusal.{Refusal};
 ghost use Rattle.store_exec.specs.declared.triple.Triple.{Triple};
-ghost use Rattle.pale_types.specs.TypedPrograms.{TypedProgram};
-ghost use Rattle.hoare_split.specs.ProgramTexts.{IsReadAs, IsRefusedAs};
+ghost use Rattle.pale_typed.specs.TypedPrograms.{TypedProgram};
+ghost use Rattle.whole_program.specs.ProgramTexts.{IsReadAs, IsRefusedAs};
 ghost use Rattle.program_judge.specs.declared.ways.Ending.{Ending};
 ghost use Rattle.program_judge.specs.declared.ways.Ending.TheVariants as ending;
 ghost use Rattle.program_judge.specs.Reports.{ReportsProgram};

@@ -5,7 +5,7 @@ ghost use Rattle.std.specs.Fmt.{decimal};
 ghost use Rattle.program_judge.specs.Reports as reports;
 
 use crate::TripleWay;
-use pale_replay::push_number;
+use store_words::push_number;
 use std::alloc::{AllocError, Global};
 
 /// How many triples are valid. Takes no memory.

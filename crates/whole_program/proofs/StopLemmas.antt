@@ -9,9 +9,9 @@ use Rattle.pale_syntax.specs.declared.tree.declaration.Program.{Program}
 use Rattle.pale_syntax.specs.ProgramReading.{IsParseStop}
 use Rattle.pale_tables.specs.Faults.{IsStop}
 use Rattle.pale_types.specs.Programs.{program_fault, typed_program}
-use Rattle.pale_types.specs.TypedPrograms.{TypedProgram}
+use Rattle.pale_typed.specs.TypedPrograms.{TypedProgram}
 use Rattle.hoare_split.specs.Triples.{split_fault}
-use Rattle.hoare_split.specs.ProgramTexts.{IsTextOf, IsStopOf, stray, unparsed, untyped, too_long}
+use Rattle.whole_program.specs.ProgramTexts.{IsTextOf, IsStopOf, stray, unparsed, untyped, too_long}
 
 -- a `?` hands a stop on
 pub handed_on : {X : Type 0} (text : List ℕ) (r : Result X TextStop) (e : TextStop) → IsErrAnd r (λ y. y ≡ e) → IsStopOf text e → IfErr r (IsStopOf text)

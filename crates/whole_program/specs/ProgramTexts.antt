@@ -10,7 +10,7 @@ use Rattle.pale_syntax.specs.declared.tree.declaration.Program.{Program}
 use Rattle.pale_syntax.specs.ProgramReading.{IsParsedAs, IsParseStop}
 use Rattle.store_exec.specs.declared.triple.Triple.{Triple}
 use Rattle.pale_types.specs.Programs.{program_fault, typed_program}
-use Rattle.pale_types.specs.TypedPrograms.{TypedProgram}
+use Rattle.pale_typed.specs.TypedPrograms.{TypedProgram}
 use Rattle.hoare_split.specs.Triples.{split_fault, triples_of}
 
 -- ---- programs

@@ -1,14 +1,15 @@
 //! A text read as a program and its triples.
 
 ghost use Rattle.std.specs.Prelude.{◌<◌, length, IfOk, IfErr, All};
-ghost use Rattle.pale_types.specs.Fitting.{ProgramFits};
+ghost use Rattle.pale_typed.specs.Fitting.{ProgramFits};
 ghost use Rattle.hoare_split.specs.Fitting.{FitsProgram, IsShort};
-ghost use Rattle.hoare_split.specs.ProgramTexts.{IsReadAs, IsStopOf};
+ghost use Rattle.whole_program.specs.ProgramTexts.{IsReadAs, IsStopOf};
 
-use crate::{TripleList, split};
+use hoare_split::{TripleList, split};
 use pale_parse::parse;
 use pale_text::{TextStop, lex};
-use pale_types::{Typed, check_types};
+use pale_typed::Typed;
+use pale_types::check_types;
 use std::alloc::Global;
 
 /// A program without a fault, and its triples in order.

@@ -3,7 +3,7 @@ use Rattle.pale_fitting.specs.Standing.{AreVariables}
 use Rattle.pale_terms.specs.Visibles.{Entry}
 use Rattle.pale_calls.specs.Calls.{touched, allowed_each}
 use Rattle.pale_sights.proofs.KeepLemmas.{allowed-variables, given-back}
-use Rattle.pale_types.proofs.calls.read_keep.Goals as goal
+use Rattle.pale_procedures.proofs.calls.read_keep.Goals as goal
 
 -- what may not be named is still a variable of the table
 pub read_optional-keep-requires-clause-variables : goal.read_optional-keep-requires-clause-variables

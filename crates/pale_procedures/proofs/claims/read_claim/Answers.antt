@@ -1,7 +1,7 @@
 use Rattle.std.proofs.Common.{not, sym, subst}
 use Rattle.pale_sights.specs.Framing.{AreOfATable}
 use Rattle.pale_sights.proofs.SightLemmas.{heading-variables}
-use Rattle.pale_sights.proofs.headings.read_claim.Goals as goal
+use Rattle.pale_procedures.proofs.claims.read_claim.Goals as goal
 
 pub read_optional-requires-clause-variables : goal.read_optional-requires-clause-variables
 read_optional-requires-clause-variables c =

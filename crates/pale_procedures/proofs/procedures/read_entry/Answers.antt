@@ -5,9 +5,9 @@ use Rattle.pale_sights.specs.declared.headings.Lists.{Lists}
 use Rattle.pale_sights.specs.Sights.{frame_of}
 use Rattle.pale_sights.specs.Framing.{IsFrame}
 use Rattle.pale_sights.specs.Headings.{lists_of}
-use Rattle.pale_types.specs.Statements.{block_fault}
-use Rattle.pale_types.specs.Procedures.{entry_of}
-use Rattle.pale_types.proofs.procedures.read_entry.Goals as goal
+use Rattle.pale_procedures.specs.Statements.{block_fault}
+use Rattle.pale_procedures.specs.Procedures.{entry_of}
+use Rattle.pale_procedures.proofs.procedures.read_entry.Goals as goal
 
 pub read_body-requires-clause-frame : goal.read_body-requires-clause-frame
 read_body-requires-clause-frame c = subst IsFrame (sym c.in_ok-frame.ensures) c.requires.frame

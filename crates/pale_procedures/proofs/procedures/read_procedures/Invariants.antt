@@ -1,7 +1,7 @@
 use Rattle.std.proofs.Common.{◌≡◌, ◌++◌, map, drop}
 use Rattle.pale_tables.specs.Faults.{first_of}
-use Rattle.pale_types.specs.Procedures.{procedure_fault, typed_procedure}
-use Rattle.pale_types.proofs.procedures.read_procedures.Given as goal
+use Rattle.pale_procedures.specs.Procedures.{procedure_fault, typed_procedure}
+use Rattle.pale_procedures.proofs.procedures.read_procedures.Given as goal
 
 -- what came before has no fault, and the procedures that are left come behind those that were read
 abbrev pub invariant-loop-procedure : goal.invariant-loop-procedure

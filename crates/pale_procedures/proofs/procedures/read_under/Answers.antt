@@ -5,9 +5,9 @@ use Rattle.pale_sights.specs.Sights.{frame_of}
 use Rattle.pale_sights.specs.Framing.{IsBody}
 use Rattle.pale_sights.specs.Headings.{lists_of}
 use Rattle.pale_sights.proofs.HeadingLemmas.{heading-is}
-use Rattle.pale_types.specs.Statements.{types_of}
-use Rattle.pale_types.proofs.ReadingLemmas.{claims-stop, locals-stop, body-named, frame-stands, body-stop, procedure-none, procedure-is}
-use Rattle.pale_types.proofs.procedures.read_under.Goals as goal
+use Rattle.pale_procedures.specs.Statements.{types_of}
+use Rattle.pale_procedures.proofs.ReadingLemmas.{claims-stop, locals-stop, body-named, frame-stands, body-stop, procedure-none, procedure-is}
+use Rattle.pale_procedures.proofs.procedures.read_under.Goals as goal
 
 pub read_claims-requires-clause-heading : goal.read_claims-requires-clause-heading
 read_claims-requires-clause-heading c =

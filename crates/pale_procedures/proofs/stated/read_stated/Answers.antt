@@ -1,7 +1,7 @@
 use Rattle.std.proofs.Common.{sym, subst}
 use Rattle.store_logic.specs.Uses.{CanExpand}
 use Rattle.pale_fitting.proofs.ProcedureLemmas.{procedure-can-expand}
-use Rattle.pale_sights.proofs.stated.read_stated.Goals as goal
+use Rattle.pale_procedures.proofs.stated.read_stated.Goals as goal
 
 pub expand-requires : goal.expand-requires
 expand-requires c =

@@ -1,8 +1,8 @@
 use Rattle.std.proofs.Common.{◌≡◌, Some, sym, ap, ◌∙◌}
 use Rattle.pale_syntax.specs.declared.tree.statement.Statement.TheVariants as form
 use Rattle.pale_tables.proofs.FaultLemmas.{stop_returned}
-use Rattle.pale_types.proofs.StatementLemmas.{if-first-stop, if-else-stop, if-none, if-typed}
-use Rattle.pale_types.proofs.statements.+statements.Goals as goal
+use Rattle.pale_procedures.proofs.StatementLemmas.{if-first-stop, if-else-stop, if-none, if-typed}
+use Rattle.pale_procedures.proofs.statements.+statements.Goals as goal
 
 pub read_statement-returns-in_err-yes-in-If-clause-stop : goal.read_statement-returns-in_err-yes-in-If-clause-stop
 read_statement-returns-in_err-yes-in-If-clause-stop t c =

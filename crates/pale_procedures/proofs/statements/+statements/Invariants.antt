@@ -1,7 +1,7 @@
 use Rattle.std.proofs.Common.{◌≡◌, ◌++◌, map, drop}
 use Rattle.pale_tables.specs.Faults.{first_of}
-use Rattle.pale_types.specs.Statements.{statement_fault, typed_statement}
-use Rattle.pale_types.proofs.statements.+statements.Given as goal
+use Rattle.pale_procedures.specs.Statements.{statement_fault, typed_statement}
+use Rattle.pale_procedures.proofs.statements.+statements.Given as goal
 
 -- what came before has no fault, and the statements that are left come behind those that were found
 abbrev pub invariant-read_block-loop-statement : goal.invariant-read_block-loop-statement

@@ -1,5 +1,5 @@
-use Rattle.hoare_split.proofs.StopLemmas.{handed_on, lex_stop, parse_stop, type_stop, split_stop}
-use Rattle.hoare_split.proofs.program.read_program.Goals as goal
+use Rattle.whole_program.proofs.StopLemmas.{handed_on, lex_stop, parse_stop, type_stop, split_stop}
+use Rattle.whole_program.proofs.program.read_program.Goals as goal
 
 pub returns-in_err-list-clause-stop : goal.returns-in_err-list-clause-stop
 returns-in_err-list-clause-stop c =

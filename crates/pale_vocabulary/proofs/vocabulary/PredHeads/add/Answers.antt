@@ -1,9 +1,9 @@
 use Rattle.std.proofs.Common.{◌++◌, ◌∷◌, [], ap, ◌∙◌}
 use Rattle.store_core.specs.Tables.{place_of}
 use Rattle.store_core.proofs.Bodies.{map-insert_entry}
-use Rattle.pale_assertions.specs.Heads.{head_of, heads_of, head_names}
-use Rattle.pale_assertions.proofs.HeadLemmas.{place-kept}
-use Rattle.pale_assertions.proofs.vocabulary.PredHeads.add.Goals as goal
+use Rattle.pale_vocabulary.specs.Heads.{head_of, heads_of, head_names}
+use Rattle.pale_vocabulary.proofs.HeadLemmas.{place-kept}
+use Rattle.pale_vocabulary.proofs.vocabulary.PredHeads.add.Goals as goal
 
 pub returns-clause-added : goal.returns-clause-added
 returns-clause-added c =

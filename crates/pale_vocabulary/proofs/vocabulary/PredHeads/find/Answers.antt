@@ -1,8 +1,8 @@
 use Rattle.std.proofs.Common.{ap, ◌∙◌}
 use Rattle.store_core.specs.Tables.{place_of}
-use Rattle.pale_assertions.specs.Heads.{head_names}
-use Rattle.pale_assertions.proofs.HeadLemmas.{place-kept}
-use Rattle.pale_assertions.proofs.vocabulary.PredHeads.find.Goals as goal
+use Rattle.pale_vocabulary.specs.Heads.{head_names}
+use Rattle.pale_vocabulary.proofs.HeadLemmas.{place-kept}
+use Rattle.pale_vocabulary.proofs.vocabulary.PredHeads.find.Goals as goal
 
 pub returns : goal.returns
 returns c =
