@@ -6,11 +6,11 @@ ghost use Rattle.pale_vocabulary.specs.Arguments.{truth_argument_fault, cell_arg
 ghost use Rattle.pale_vocabulary.specs.Arguments.{truth_argument, cell_argument, set_argument, argument_of, arguments_of};
 ghost use Rattle.pale_vocabulary.specs.Arguments.{pred_named, applied_fault, applied_to, use_fault, use_of};
 
-use pale_vocabulary::Vocabulary;
 use pale_syntax::{Name, Path};
 use pale_tables::need;
 use pale_terms::{Scope, Sort, read_path, read_set_path};
 use pale_text::{Refusal, RefusalKind, TextStop};
+use pale_vocabulary::Vocabulary;
 use plain_data::Items;
 use std::alloc::Global;
 use store_core::TypeTable;

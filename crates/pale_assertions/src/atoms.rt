@@ -6,7 +6,6 @@ ghost use Rattle.pale_terms.specs.Terms.{compared_fault, variant_test_fault};
 ghost use Rattle.pale_vocabulary.specs.Atoms.{truth_fault, truth_of, member_fault, member_of, subset_fault, subset_of, walk_fault, walk_of};
 ghost use Rattle.pale_vocabulary.specs.Atoms.{sets_fault, sets_of, same_of, is_of, is_in_type};
 
-use pale_vocabulary::Vocabulary;
 use pale_syntax::{Name, Path, Route as SourceRoute, Term as SourceTerm};
 use pale_tables::{Followed, need, read_route};
 use pale_terms::{
@@ -14,6 +13,7 @@ use pale_terms::{
     read_variant_test,
 };
 use pale_text::{Pos, Refusal, RefusalKind, TextStop};
+use pale_vocabulary::Vocabulary;
 use std::alloc::Global;
 use store_core::{TypeId, TypeTable};
 use store_logic::Assertion;

@@ -10,11 +10,11 @@ ghost use Rattle.pale_procedures.specs.Statements.{keep_sight, parts_of, parts_f
 use crate::basis::Basis;
 use crate::stated::read_optional;
 use pale_calls::{allow_touched, read_call};
-use pale_vocabulary::Declared;
 use pale_sights::Frame;
 use pale_syntax::Call;
 use pale_text::TextStop;
 use pale_typed::{CallParts, Stmt};
+use pale_vocabulary::Declared;
 use std::alloc::Global;
 use store_logic::Assertion;
 

@@ -8,10 +8,10 @@ ghost use Rattle.pale_sights.specs.Framing.{AreOfATable};
 ghost use Rattle.pale_procedures.specs.Stated.{stated, stated_or_true, stated_fault};
 
 use pale_assertions::read_assertion;
-use pale_vocabulary::Declared;
 use pale_syntax::Bracketed;
 use pale_terms::Scope;
 use pale_text::{Refusal, RefusalKind, TextStop};
+use pale_vocabulary::Declared;
 use std::alloc::Global;
 use store_expand::ExpandFault;
 use store_logic::Assertion;

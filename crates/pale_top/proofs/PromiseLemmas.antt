@@ -15,8 +15,8 @@ use Rattle.pale_modes.specs.Texts.{most_bytes}
 use Rattle.program_judge.specs.declared.ways.Ending.{Ending}
 use Rattle.program_judge.specs.declared.ways.Ending.TheVariants as ending
 use Rattle.program_judge.specs.Reports.{ReportsProgram}
-use Rattle.program_judge.specs.Safety.{RunsNeverFail, IsSafe}
-use Rattle.program_judge.specs.Completeness.{ArePeaksWithin, IsWithinPeaks}
+use Rattle.program_promises.specs.Safety.{RunsNeverFail, IsSafe}
+use Rattle.program_promises.specs.Completeness.{ArePeaksWithin, IsWithinPeaks}
 use Rattle.pale_top.specs.Checking.{Checks, status_of, too_long, refused, judged}
 use Rattle.pale_top.specs.Output.{Answers, IsAnswer, Output, check, replay, format, ws2s, generated}
 

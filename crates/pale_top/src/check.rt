@@ -14,11 +14,11 @@ ghost use Rattle.pale_top.specs.Checking.{Checks, status_of};
 
 use crate::check_parts::{check_fields, check_triples};
 use bdd_nodes::Shelf;
-use whole_program::{WholeProgram, read_program};
 use pale_io::{Sink, WriteStop, write_all};
 use pale_modes::{Status, refuse};
 use program_judge::{Ending, are_functional, judged_ending, stopped_ending, totals_text};
 use std::alloc::Global;
+use whole_program::{WholeProgram, read_program};
 use ws2s_pass::PassList;
 
 /// The status of a report, by how it ends.

@@ -11,13 +11,13 @@ ghost use Rattle.program_judge.specs.Reports as reports;
 ghost use Rattle.program_judge.specs.Reports.{ReportsField, ReportsFields, ReportsTriple, ReportsTriples, ReportsAll, ReportsProgram};
 
 use bdd_nodes::Shelf;
-use whole_program::WholeProgram;
 use pale_io::{Sink, WriteStop, write_all};
 use pale_typed::Typed;
 use program_judge::{FieldWay, TripleWay, field_report, pointer_fields, triple_report};
 use std::alloc::{AllocError, Global};
 use store_core::{FieldId, TypeTable};
 use store_exec::Triple;
+use whole_program::WholeProgram;
 use ws2s_pass::PassList;
 
 /// Puts how one more was judged at the end.

@@ -16,7 +16,6 @@ use crate::check::status_of;
 use crate::check_parts::{check_fields, check_triples};
 use crate::nowhere::Nowhere;
 use bdd_nodes::Shelf;
-use whole_program::{WholeProgram, read_program};
 use pale_generator::gen_program;
 use pale_io::{Sink, WriteStop};
 use pale_modes::{Status, push_number, refuse, say};
@@ -25,6 +24,7 @@ use program_judge::{
     valid_count,
 };
 use std::alloc::{AllocError, Global};
+use whole_program::{WholeProgram, read_program};
 use ws2s_pass::PassList;
 
 /// How the triples of a program were judged, none where some field isn't functional, and how its report ends.

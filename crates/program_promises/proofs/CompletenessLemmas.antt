@@ -38,7 +38,7 @@ use Rattle.program_judge.specs.Reports.{is_pointer, pointer_fields, is_functiona
 use Rattle.program_judge.specs.Reports.{ReportsField, functional, ambiguous, field_at_limit, ReportsFields, no_field, next_field}
 use Rattle.program_judge.specs.Reports.{ReportsTriple, valid, invalid, triple_at_limit, ReportsTriples, no_triple, next_triple}
 use Rattle.program_judge.specs.Reports.{ReportsAll, totalled, ReportsProgram, stopped, judged}
-use Rattle.program_judge.specs.Completeness.{ArePeaksWithin}
+use Rattle.program_promises.specs.Completeness.{ArePeaksWithin}
 
 -- what the layers below say of fields and of Peaks
 pub record Laws : Type 0 where

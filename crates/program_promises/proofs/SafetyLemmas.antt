@@ -20,7 +20,7 @@ use Rattle.triple_judge.specs.Judging.{IsValid}
 use Rattle.whole_run.specs.States.{Fail}
 use Rattle.whole_run.specs.Runs.{WholeRun}
 use Rattle.whole_run.specs.Safety.{NoTripleFails, MeetsEntry}
-use Rattle.program_judge.specs.Safety.{RunsNeverFail}
+use Rattle.program_promises.specs.Safety.{RunsNeverFail}
 
 abbrev pub AreValid : TypedProgram → List Triple → Type 0
 AreValid program triples = (i : ℕ) (t : Triple) (e : ProcEntry) → slice_get triples i ≡ Some t → slice_get program.procs t.proc ≡ Some e →

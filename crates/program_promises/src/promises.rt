@@ -8,13 +8,13 @@ ghost use Rattle.whole_program.specs.ProgramTexts.{IsReadAs, IsRefusedAs};
 ghost use Rattle.program_judge.specs.declared.ways.Ending.{Ending};
 ghost use Rattle.program_judge.specs.declared.ways.Ending.TheVariants as ending;
 ghost use Rattle.program_judge.specs.Reports.{ReportsProgram};
-ghost use Rattle.program_judge.specs.Safety.{RunsNeverFail};
-ghost use Rattle.program_judge.specs.Completeness.{ArePeaksWithin};
+ghost use Rattle.program_promises.specs.Safety.{RunsNeverFail};
+ghost use Rattle.program_promises.specs.Completeness.{ArePeaksWithin};
 
-use crate::laws::good_reports_have_valid_triples;
 use field_judge::laws::ambiguous_fields_are_not_functional;
 use pale_parse::one_program;
 use pale_text::{stray_byte_is_one, tokens_are_one};
+use program_judge::laws::good_reports_have_valid_triples;
 use triple_judge::laws::triples_have_one_peak;
 use whole_run::programs_of_texts_never_fail;
 use ws2s_theory::peaks_exist;

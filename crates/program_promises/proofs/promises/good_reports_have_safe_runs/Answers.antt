@@ -1,5 +1,5 @@
-use Rattle.program_judge.proofs.SafetyLemmas.{runs-safe}
-use Rattle.program_judge.proofs.promises.good_reports_have_safe_runs.Goals as goal
+use Rattle.program_promises.proofs.SafetyLemmas.{runs-safe}
+use Rattle.program_promises.proofs.promises.good_reports_have_safe_runs.Goals as goal
 
 pub returns : goal.returns
 returns c limit text program triples output read reports =

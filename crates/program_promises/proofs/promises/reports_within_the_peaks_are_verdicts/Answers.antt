@@ -1,5 +1,5 @@
-use Rattle.program_judge.proofs.CompletenessLemmas.{verdicts}
-use Rattle.program_judge.proofs.promises.reports_within_the_peaks_are_verdicts.Goals as goal
+use Rattle.program_promises.proofs.CompletenessLemmas.{verdicts}
+use Rattle.program_promises.proofs.promises.reports_within_the_peaks_are_verdicts.Goals as goal
 
 pub returns : goal.returns
 returns c =

@@ -1,5 +1,5 @@
-use Rattle.program_judge.proofs.ReadingLemmas.{one_reading, read_apart}
-use Rattle.program_judge.proofs.promises.texts_have_one_reading.Goals as goal
+use Rattle.program_promises.proofs.ReadingLemmas.{one_reading, read_apart}
+use Rattle.program_promises.proofs.promises.texts_have_one_reading.Goals as goal
 
 pub returns-clause-one : goal.returns-clause-one
 returns-clause-one c =
