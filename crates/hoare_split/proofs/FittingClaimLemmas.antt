@@ -40,7 +40,7 @@ use Rattle.hoare_split.proofs.FittingVariableLemmas.{spent-program, lent-pointer
 
 -- ---- what is put in
 
--- a claim fits where what is put in fits, as pale_types has it for a law
+-- a claim fits where what is put in fits, as claim_laws has it for a law
 abbrev pub PutsFit : Type 0
 PutsFit = (types : List TypeEntry) (theirs vars : List VarEntry) (among : List VarId) (put : Base → Filling) (claim : Assertion) →
     StatedFits types theirs (Contains among) claim →

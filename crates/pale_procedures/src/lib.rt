@@ -12,5 +12,6 @@ mod stated;
 mod statements;
 
 pub use basis::Basis;
-pub use claims::Claims;
+pub use claims::{Claims, read_claims};
 pub use procedures::read_procedures;
+pub use stated::{read_optional, read_stated};
