@@ -6,10 +6,10 @@ use Rattle.store_core.specs.declared.ids.VarId.{VarId}
 use Rattle.store_core.specs.declared.ids.CellId.{CellId}
 use Rattle.store_core.specs.declared.ids.FieldId.{FieldId}
 use Rattle.store_core.specs.Tables.{TypeEntry, VarEntry, var_at}
-use Rattle.routing_expr.specs.declared.fault.Place.{Place}
-use Rattle.routing_expr.specs.declared.fault.Place.TheVariants as place
-use Rattle.routing_expr.specs.declared.fault.WfFault.{WfFault}
-use Rattle.routing_expr.specs.declared.fault.WfFault.TheVariants as fault
+use Rattle.routing_walks.specs.declared.fault.Place.{Place}
+use Rattle.routing_walks.specs.declared.fault.Place.TheVariants as place
+use Rattle.routing_walks.specs.declared.fault.WfFault.{WfFault}
+use Rattle.routing_walks.specs.declared.fault.WfFault.TheVariants as fault
 use Rattle.store_text.specs.declared.fault.StoreKind.{StoreKind}
 use Rattle.store_text.specs.Faults.{word_of}
 use Rattle.store_words.specs.Words.{word_of_cause, field_name}

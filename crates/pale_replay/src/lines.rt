@@ -6,7 +6,7 @@ ghost use Rattle.store_words.specs.Words.{word_of_cause};
 ghost use Rattle.pale_replay.specs.Lines.{var_name, cell_text, field_text, place_text, fault_text, line_of, store_refused_line};
 
 use crate::answer::{Answer, Replay};
-use routing_expr::{Place, WfFault};
+use routing_walks::{Place, WfFault};
 use std::alloc::{AllocError, Global};
 use store_core::{ByteList, CellId, FieldId, TypeTable, VarId, VarTable};
 use store_exec::Cause;

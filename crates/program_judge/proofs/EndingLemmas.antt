@@ -14,9 +14,9 @@ use Rattle.store_core.proofs.FittingLemmas.{IsSomeAnd-at}
 use Rattle.witness_store.specs.Pointers.{IsPointerField}
 use Rattle.store_exec.specs.declared.triple.Triple.{Triple}
 use Rattle.store_text.specs.StoreText.{store_text_of}
-use Rattle.routing_expr.specs.Destinations.{IsPointer}
-use Rattle.routing_expr.specs.WellFormed.{IsFunctional}
-use Rattle.routing_laws.proofs.DecidedLemmas.{in_none}
+use Rattle.routing_walks.specs.Destinations.{IsPointer}
+use Rattle.routing_walks.specs.WellFormed.{IsFunctional}
+use Rattle.routing_walks.proofs.DecidedLemmas.{in_none}
 use Rattle.graph_view.specs.Fields.{has_kind}
 use Rattle.graph_meaning.proofs.walks.ListedLemmas.{field-listed}
 use Rattle.witness_store.specs.Alike.{AreFunctional}

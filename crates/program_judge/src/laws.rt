@@ -6,7 +6,7 @@ ghost use Rattle.store_core.specs.declared.ids.FieldId.{FieldId};
 ghost use Rattle.store_core.specs.declared.ids.CellId.{CellId};
 ghost use Rattle.store_core.specs.Tables.{TypeEntry, IsTypeTable};
 ghost use Rattle.store_core.specs.Stores.{StoreMap};
-ghost use Rattle.routing_expr.specs.WellFormed.{IsFunctional};
+ghost use Rattle.routing_walks.specs.WellFormed.{IsFunctional};
 ghost use Rattle.store_exec.specs.declared.triple.Triple.{Triple};
 ghost use Rattle.pale_typed.specs.declared.typed.ProcEntry.{ProcEntry};
 ghost use Rattle.pale_typed.specs.TypedPrograms.{TypedProgram};

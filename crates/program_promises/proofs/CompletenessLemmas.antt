@@ -16,8 +16,8 @@ use Rattle.store_core.specs.Tables.{TypeEntry, VarEntry, FieldEntry, field_at}
 use Rattle.store_core.specs.Stores.{StoreMap}
 use Rattle.witness_store.specs.Pointers.{IsPointerField}
 use Rattle.store_exec.specs.declared.triple.Triple.{Triple}
-use Rattle.routing_expr.specs.Destinations.{IsPointer}
-use Rattle.routing_expr.specs.WellFormed.{IsFunctional}
+use Rattle.routing_walks.specs.Destinations.{IsPointer}
+use Rattle.routing_walks.specs.WellFormed.{IsFunctional}
 use Rattle.tree_encode.specs.Spaces.{guide_of}
 use Rattle.tree_encode.proofs.SpacesLemmas.{IsGuide-guide_of}
 use Rattle.graph_view.specs.Fields.{has_kind}

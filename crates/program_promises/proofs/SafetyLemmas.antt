@@ -2,8 +2,8 @@
 use Rattle.std.proofs.Common.{◌≡◌, ◌∙◌, ℕ, List, ap, subst, sym, Some, None, slice_get}
 use Rattle.std.specs.Prelude.{Contains}
 use Rattle.ll1_reader.specs.Readings.{Step}
-use Rattle.routing_expr.proofs.GatheringLemmas.{place_in}
 use Rattle.store_core.specs.Stores.{StoreMap}
+use Rattle.routing_walks.proofs.GatheringLemmas.{place_in}
 use Rattle.store_exec.specs.declared.cause.Cause.{Cause}
 use Rattle.store_exec.specs.declared.triple.Triple.{Triple}
 use Rattle.pale_syntax.specs.declared.grammar.act.Act.{Act}

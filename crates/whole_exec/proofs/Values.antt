@@ -4,7 +4,7 @@ use Rattle.std.specs.Prelude.{option_map}
 use Rattle.store_core.specs.declared.ids.VarId.{VarId}
 use Rattle.store_core.specs.declared.ids.CellId.{CellId}
 use Rattle.store_core.specs.Stores.{StoreMap}
-use Rattle.routing_expr.specs.Regions.{IsPart}
+use Rattle.routing_walks.specs.Regions.{IsPart}
 use Rattle.pale_typed.specs.declared.typed.CallParts.{CallParts}
 use Rattle.pale_typed.specs.declared.typed.ProcEntry.{ProcEntry}
 use Rattle.pale_typed.specs.declared.typed.Stmt.{Stmt}

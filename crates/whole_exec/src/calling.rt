@@ -1,7 +1,7 @@
 //! A call: its cut, and the callee's entry.
 
 ghost use Rattle.std.specs.Prelude.{Ok, slice_get, IfOk, IsSome};
-ghost use Rattle.routing_expr.specs.Regions.{IsPart};
+ghost use Rattle.routing_walks.specs.Regions.{IsPart};
 ghost use Rattle.pale_typed.specs.declared.typed.Stmt.TheOpen.{Stmt-F};
 ghost use Rattle.pale_typed.specs.Fitting.{CallFits, ProgramFits};
 ghost use Rattle.hoare_split.specs.Calls.{handed_by};

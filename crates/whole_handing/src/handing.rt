@@ -3,8 +3,8 @@
 ghost use Rattle.std.specs.Prelude.{◌≡◌, ◌++◌, IfOk, OnOk, map, filter};
 ghost use Rattle.store_core.specs.CellLists.{AreRising};
 ghost use Rattle.store_core.specs.Stores.{blank, var_class};
-ghost use Rattle.routing_expr.specs.Regions.{has_number};
-ghost use Rattle.routing_laws.specs.Pieces as regions;
+ghost use Rattle.routing_walks.specs.Regions.{has_number};
+ghost use Rattle.routing_walks.specs.Pieces as regions;
 ghost use Rattle.whole_run.specs.Handing as calls;
 ghost use Rattle.store_exec.specs.Steps as steps;
 

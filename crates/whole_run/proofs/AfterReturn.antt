@@ -13,8 +13,8 @@ use Rattle.store_core.specs.declared.value.Value.{Value}
 use Rattle.store_core.specs.Tables.{VarEntry}
 use Rattle.store_core.specs.Stores.{StoreMap, CellEntry, IsLive, IsAbove, cell_of}
 use Rattle.store_core.proofs.AboveLemmas.{live_below}
-use Rattle.routing_expr.specs.Walks.{IsOfType}
-use Rattle.routing_expr.proofs.FittingLemmas.{IsSomeAnd-at}
+use Rattle.store_core.proofs.FittingLemmas.{IsSomeAnd-at}
+use Rattle.routing_walks.specs.Walks.{IsOfType}
 use Rattle.store_exec.specs.Steps.{variable}
 use Rattle.store_exec.specs.Restricted.{live_part, restricted}
 use Rattle.pale_calls.specs.Classes.{class_of, holds_cell, is_logic}

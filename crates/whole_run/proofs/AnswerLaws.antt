@@ -3,8 +3,8 @@ use Rattle.std.proofs.Common.{◌≡◌, ℕ, List, Some, None, slice_get}
 use Rattle.store_core.specs.declared.ids.CellId.{CellId}
 use Rattle.store_core.specs.Tables.{VarEntry}
 use Rattle.store_core.specs.Stores.{StoreMap, Fits}
-use Rattle.routing_expr.specs.Regions.{IsPart}
-use Rattle.routing_expr.specs.WellFormed.{IsWellFormed}
+use Rattle.routing_walks.specs.Regions.{IsPart}
+use Rattle.routing_walks.specs.WellFormed.{IsWellFormed}
 use Rattle.store_exec.specs.Restricted.{restricted}
 use Rattle.store_exec.specs.Cuts.{AreMet, AtCut}
 use Rattle.store_exec.specs.Failing.{StartHolds}

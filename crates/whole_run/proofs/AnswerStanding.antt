@@ -4,7 +4,7 @@ use Rattle.std.specs.List.{AllByRecursion}
 use Rattle.store_core.specs.declared.ids.CellId.{CellId}
 use Rattle.store_core.specs.Tables.{TypeEntry}
 use Rattle.store_core.specs.Stores.{StoreMap, Fits}
-use Rattle.routing_expr.specs.Regions.{IsPart}
+use Rattle.routing_walks.specs.Regions.{IsPart}
 use Rattle.store_exec.specs.Restricted.{restricted}
 use Rattle.store_exec.specs.Cuts.{AtCut}
 use Rattle.store_exec.proofs.KeepLemmas.{IsWell}

@@ -10,12 +10,12 @@ use Rattle.store_core.specs.declared.ids.VarId.{VarId}
 use Rattle.store_core.specs.declared.ids.CellId.{CellId}
 use Rattle.store_core.specs.Tables.{TypeEntry, VarEntry}
 use Rattle.store_core.specs.Stores.{StoreMap, CellEntry, cell_of, var_value}
-use Rattle.routing_expr.specs.Regions.{store_on}
-use Rattle.routing_expr.specs.WellFormed.{IsWellFormed}
-use Rattle.routing_expr.proofs.FreshLemmas.{IsFresh-well_formed}
-use Rattle.routing_laws.proofs.DecidedLemmas.{decided_in}
-use Rattle.routing_laws.proofs.DecidedWalks.{decided_same_cell}
-use Rattle.routing_laws.proofs.RegionLemmas.{store_on-IsOn}
+use Rattle.routing_walks.specs.Regions.{store_on}
+use Rattle.routing_walks.specs.WellFormed.{IsWellFormed}
+use Rattle.routing_walks.proofs.FreshLemmas.{IsFresh-well_formed}
+use Rattle.routing_walks.proofs.DecidedLemmas.{decided_in}
+use Rattle.routing_walks.proofs.DecidedWalks.{decided_same_cell}
+use Rattle.routing_walks.proofs.RegionLemmas.{store_on-IsOn}
 use Rattle.store_logic.specs.declared.act.Act.{Act}
 use Rattle.store_logic.specs.declared.act.Act.TheVariants as act
 use Rattle.store_logic.specs.declared.act.Rhs.{Rhs}

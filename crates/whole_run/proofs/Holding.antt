@@ -15,8 +15,8 @@ use Rattle.store_core.specs.declared.value.Value.{Value}
 use Rattle.store_core.specs.declared.value.Value.TheVariants as value
 use Rattle.store_core.specs.Tables.{TypeEntry, VarEntry, var_at}
 use Rattle.store_core.specs.Stores.{StoreMap, CellEntry, IsLive, cell_of}
-use Rattle.routing_expr.specs.Walks.{DataAndPointers, Walk, IsOfVariant}
-use Rattle.routing_expr.proofs.AloneLemmas.{Walk-same_cells}
+use Rattle.routing_walks.specs.Walks.{DataAndPointers, Walk, IsOfVariant}
+use Rattle.routing_walks.proofs.AloneLemmas.{Walk-same_cells}
 use Rattle.store_logic.specs.declared.term.Base.{Base}
 use Rattle.store_logic.specs.declared.term.Base.TheVariants as base
 use Rattle.store_logic.specs.declared.term.Term.{Term}

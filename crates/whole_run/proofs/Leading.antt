@@ -4,7 +4,7 @@ use Rattle.std.specs.List.{AllByRecursion}
 use Rattle.store_core.specs.declared.ids.VarId.{VarId}
 use Rattle.store_core.specs.Tables.{TypeEntry, VarEntry}
 use Rattle.store_core.specs.Stores.{StoreMap, Fits}
-use Rattle.routing_laws.proofs.DecidedStores.{part_of}
+use Rattle.routing_walks.proofs.DecidedStores.{part_of}
 use Rattle.store_logic.specs.declared.act.Act.{Act}
 use Rattle.store_exec.specs.declared.cause.Cause.{Cause}
 use Rattle.store_exec.specs.declared.code.Item.{Item}

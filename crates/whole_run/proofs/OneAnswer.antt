@@ -9,9 +9,9 @@ use Rattle.store_core.specs.declared.value.Value.{Value}
 use Rattle.store_core.specs.declared.value.Value.TheVariants as value
 use Rattle.store_core.specs.Tables.{TypeEntry, VarEntry}
 use Rattle.store_core.specs.Stores.{StoreMap}
-use Rattle.routing_expr.specs.Regions.{has_number, IsReachedFrom}
-use Rattle.routing_laws.specs.Pieces.{value_on}
-use Rattle.routing_laws.proofs.RegionLemmas.{number_in, in_number}
+use Rattle.routing_walks.specs.Regions.{has_number, IsReachedFrom}
+use Rattle.routing_walks.specs.Pieces.{value_on}
+use Rattle.routing_walks.proofs.RegionLemmas.{number_in, in_number}
 use Rattle.store_logic.specs.declared.act.Act.{Act}
 use Rattle.store_exec.specs.declared.cause.Cause.{Cause}
 use Rattle.store_exec.specs.declared.code.Item.{Item}

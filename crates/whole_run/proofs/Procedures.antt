@@ -5,7 +5,7 @@ use Rattle.std.proofs.lemmas.Option.{slice_get_within, get_or_from_slice_get}
 use Rattle.store_core.specs.Tables.{TypeEntry}
 use Rattle.store_core.specs.Stores.{StoreMap}
 use Rattle.store_core.proofs.FreshLemmas.{AllByRecursion-from}
-use Rattle.routing_expr.proofs.FreshLemmas.{IsFresh-well_formed}
+use Rattle.routing_walks.proofs.FreshLemmas.{IsFresh-well_formed}
 use Rattle.store_logic.proofs.ExpandingLists.{all-first, all-second}
 use Rattle.store_exec.specs.declared.cause.Cause.{Cause}
 use Rattle.store_exec.specs.declared.triple.Triple.{Triple}

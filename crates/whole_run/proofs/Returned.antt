@@ -16,10 +16,10 @@ use Rattle.store_core.specs.declared.value.Value.{Value}
 use Rattle.store_core.specs.declared.value.Value.TheVariants as value
 use Rattle.store_core.specs.Tables.{TypeEntry, VarEntry, var_at}
 use Rattle.store_core.specs.Stores.{StoreMap, var_value, VarFits, Fits}
-use Rattle.routing_expr.specs.Regions.{IsPart}
-use Rattle.routing_expr.specs.WellFormed.{IsWellFormed}
-use Rattle.routing_expr.proofs.FittingLemmas.{IsSomeAnd-at}
-use Rattle.routing_laws.proofs.DecidedLemmas.{in_at}
+use Rattle.store_core.proofs.FittingLemmas.{IsSomeAnd-at}
+use Rattle.routing_walks.specs.Regions.{IsPart}
+use Rattle.routing_walks.specs.WellFormed.{IsWellFormed}
+use Rattle.routing_walks.proofs.DecidedLemmas.{in_at}
 use Rattle.store_logic.specs.Terms.{null}
 use Rattle.store_exec.specs.declared.cause.Cause.TheVariants as cause
 use Rattle.store_exec.specs.Steps.{variable}

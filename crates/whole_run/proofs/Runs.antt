@@ -7,9 +7,9 @@ use Rattle.store_core.specs.declared.value.Value.{Value}
 use Rattle.store_core.specs.declared.value.Value.TheVariants as value
 use Rattle.store_core.specs.Tables.{TypeEntry, VarEntry}
 use Rattle.store_core.specs.Stores.{StoreMap, IsLive}
-use Rattle.routing_expr.specs.WellFormed.{IsWellFormed}
-use Rattle.routing_expr.proofs.FreshLemmas.{IsFresh-well_formed}
-use Rattle.routing_expr.proofs.TreeLemmas.{IsInTree-live}
+use Rattle.routing_walks.specs.WellFormed.{IsWellFormed}
+use Rattle.routing_walks.proofs.FreshLemmas.{IsFresh-well_formed}
+use Rattle.routing_walks.proofs.TreeLemmas.{IsInTree-live}
 use Rattle.store_logic.proofs.ExpandingLists.{all-first, all-second}
 use Rattle.store_exec.specs.declared.cause.Cause.{Cause}
 use Rattle.store_exec.specs.declared.cause.Cause.TheVariants as cause

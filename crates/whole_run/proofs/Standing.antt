@@ -4,8 +4,8 @@ use Rattle.std.specs.List.{AllByRecursion}
 use Rattle.store_core.specs.declared.ids.CellId.{CellId}
 use Rattle.store_core.specs.Tables.{TypeEntry, VarEntry}
 use Rattle.store_core.specs.Stores.{StoreMap, Fits, IsFresh}
-use Rattle.routing_expr.specs.Regions.{IsPart}
-use Rattle.routing_expr.specs.WellFormed.{IsWellFormed}
+use Rattle.routing_walks.specs.Regions.{IsPart}
+use Rattle.routing_walks.specs.WellFormed.{IsWellFormed}
 use Rattle.store_exec.specs.declared.triple.Start.{Start}
 use Rattle.store_exec.specs.Restricted.{restricted}
 use Rattle.store_exec.specs.Cuts.{AtCut}

@@ -4,7 +4,7 @@ use Rattle.std.specs.Prelude.{◌≡◌, ◌⊎◌, ℕ, Bool, List, [], ◌∷�
 use Rattle.store_core.specs.declared.ids.CellId.{CellId}
 use Rattle.store_core.specs.Tables.{TypeEntry, VarEntry}
 use Rattle.store_core.specs.Stores.{StoreMap}
-use Rattle.routing_expr.specs.Regions.{IsPart}
+use Rattle.routing_walks.specs.Regions.{IsPart}
 use Rattle.store_logic.specs.declared.assertion.Assertion.{Assertion}
 use Rattle.store_logic.specs.declared.cond.Cond.{Cond}
 use Rattle.store_exec.specs.declared.cause.Cause.{Cause}

@@ -4,8 +4,8 @@ ghost use Rattle.std.specs.Prelude.{◌≡◌, ℕ, List, Some, None, slice_get}
 ghost use Rattle.store_core.specs.declared.ids.CellId.{CellId};
 ghost use Rattle.store_core.specs.Tables.{VarEntry};
 ghost use Rattle.store_core.specs.Stores.{StoreMap, Fits};
-ghost use Rattle.routing_expr.specs.Regions.{IsPart};
-ghost use Rattle.routing_expr.specs.WellFormed.{IsWellFormed};
+ghost use Rattle.routing_walks.specs.Regions.{IsPart};
+ghost use Rattle.routing_walks.specs.WellFormed.{IsWellFormed};
 ghost use Rattle.store_exec.specs.Restricted.{restricted};
 ghost use Rattle.store_exec.specs.Cuts.{AreMet, AtCut};
 ghost use Rattle.store_exec.specs.Failing.{StartHolds};
