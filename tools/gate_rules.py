@@ -53,7 +53,7 @@ STANDING_CALLS = {
     "gta_project": 10,
     "gta_subsets": 2,
     "kernel_gallery": 3,
-    "store_exec": 1,
+    "store_runner": 1,
     "whole_exec_tests": 1,
     "whole_handing": 2,
     "ws2s_context": 2,

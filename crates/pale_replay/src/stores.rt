@@ -13,7 +13,8 @@ use routing_expr::well_formed;
 use routing_walks::well_formed_stores_are_fresh;
 use std::alloc::{AllocError, Global};
 use store_core::{Store, TypeTable, VarTable};
-use store_exec::{Outcome, Triple, at_cut, codes_keep_stores_fitting, meets, run};
+use store_exec::{Outcome, Triple, codes_keep_stores_fitting};
+use store_runner::{at_cut, meets, run};
 
 /// What comes of a store with which the triple's code ends at the cut at this place.
 fn arrive(

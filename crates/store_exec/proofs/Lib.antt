@@ -1,16 +1,12 @@
 pub mod SortLemmas
 pub mod KeepLemmas
-pub mod TruthLemmas
-pub mod PlaceLemmas
 pub mod RunLemmas
 pub mod GoingLemmas
 pub mod CodeLemmas
 pub mod ItemsKeepLemmas
 pub mod CanRunLemmas
-pub mod AnswerLemmas
 pub mod CutLemmas
 pub mod ActingLemmas
-pub mod StandingLemmas
 pub mod InductionLemmas
 pub mod RenamedReads
 pub mod RenamedChanges

@@ -1,5 +1,4 @@
 pub mod Steps
-pub mod Conditions
 pub mod Ready
 pub mod Runs
 pub mod Cuts

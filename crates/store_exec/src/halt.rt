@@ -5,7 +5,7 @@ use std::alloc::{AllocError, AllocFailed};
 
 /// What stops an act or a condition.
 #[derive(Clone, Copy, Debug, PartialEq, Eq)]
-pub(crate) enum Halt {
+pub enum Halt {
     /// It fails with this cause.
     Fails(Cause),
     /// Want of memory.

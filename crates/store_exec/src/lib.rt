@@ -1,32 +1,25 @@
-//! Execution of loop-free code on stores, what holds at a cut point, and which stores meet a triple.
+//! What the execution of loop-free code is, what holds at a cut point, and which stores meet a triple: codes and triples, definitions
+//! and laws. `store_runner` executes.
 //!
 //! `specs/Steps.antt` says what one act does to a store, `specs/Runs.antt` where a code leads, `specs/Cuts.antt` which cause a cut
 //! has, and `specs/Failing.antt` which stores meet a triple and how they fail.
 #![tactic(auto)]
 
-mod acts;
-mod asserting;
 mod cause;
 mod code;
-mod cuts;
 mod fault;
 mod frames;
 mod halt;
-mod items;
 mod laws;
 mod outcome;
-mod reading;
 mod renaming;
-mod running;
 mod triple;
-mod truth;
 
-pub use asserting::has_assert;
 pub use cause::Cause;
 pub use code::{Code, Item, ItemList, Tail};
-pub use cuts::{at_cut, meets};
 pub use fault::Fault;
 pub use frames::{acts_leave_the_rest, runs_leave_the_rest};
+pub use halt::Halt;
 pub use laws::{
     acts_keep_stores_fitting, codes_keep_stores_fitting, cuts_leave_well_formed_stores,
     runs_go_by_cases,
@@ -36,5 +29,4 @@ pub use renaming::{
     renaming_cells_keeps_cuts, renaming_cells_keeps_failing, renaming_cells_keeps_runs,
     renaming_cells_keeps_steps,
 };
-pub use running::run;
 pub use triple::{Claim, ClaimList, Cut, CutList, Start, Triple};

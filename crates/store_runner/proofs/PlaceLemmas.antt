@@ -12,7 +12,7 @@ use Rattle.store_logic.specs.Terms.{cell_in}
 use Rattle.store_exec.specs.declared.cause.Cause.{Cause}
 use Rattle.store_exec.specs.Steps.{and_then, made_of, read, read_along, variable, evaluated, written, last_step, assigned}
 use Rattle.store_exec.specs.declared.halt.Halt.{Halt}
-use Rattle.store_exec.specs.Conditions.{IsTold, IsToldBy}
+use Rattle.store_runner.specs.Conditions.{IsTold, IsToldBy}
 use Rattle.store_exec.proofs.SortLemmas.{ok-one, err-ok}
 use Rattle.store_exec.specs.Ready.{TakesClassAt, TakesFieldClass, field_assigned}
 

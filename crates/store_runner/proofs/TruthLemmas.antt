@@ -4,9 +4,9 @@ use Rattle.store_core.specs.Stores.{StoreMap}
 use Rattle.store_exec.specs.declared.cause.Cause.{Cause}
 use Rattle.store_exec.specs.declared.halt.Halt.{Halt}
 use Rattle.store_exec.specs.declared.halt.Halt.TheVariants.{Fails}
-use Rattle.store_exec.specs.declared.truth.Waiting.{Waiting}
-use Rattle.store_exec.specs.declared.truth.Waiting.TheVariants as waiting
-use Rattle.store_exec.specs.Conditions.{resumed_by, resumed}
+use Rattle.store_runner.specs.declared.truth.Waiting.{Waiting}
+use Rattle.store_runner.specs.declared.truth.Waiting.TheVariants as waiting
+use Rattle.store_runner.specs.Conditions.{resumed_by, resumed}
 
 -- a cause stops all that waits
 resumed_by-err : (s : StoreMap) (w : Waiting) (why : Cause) → resumed_by s w (Err why) ≡ Err why

@@ -5,10 +5,10 @@ use Rattle.store_logic.specs.PostfixConds.{form_count}
 use Rattle.store_exec.specs.declared.cause.Cause.{Cause}
 use Rattle.store_exec.specs.declared.halt.Halt.{Halt}
 use Rattle.store_exec.specs.declared.halt.Halt.TheVariants as halt
-use Rattle.store_exec.specs.declared.truth.Waiting.{Waiting}
-use Rattle.store_exec.specs.declared.truth.Waiting.TheVariants as waiting
-use Rattle.store_exec.specs.declared.truth.Next.{Next}
-use Rattle.store_exec.specs.declared.truth.Next.TheVariants as next
+use Rattle.store_runner.specs.declared.truth.Waiting.{Waiting}
+use Rattle.store_runner.specs.declared.truth.Waiting.TheVariants as waiting
+use Rattle.store_runner.specs.declared.truth.Next.{Next}
+use Rattle.store_runner.specs.declared.truth.Next.TheVariants as next
 use Rattle.store_exec.specs.Steps.{and_then, made_of, truth_of}
 
 -- the answer is the one that is defined, by what is made of its value, or want of memory

@@ -8,16 +8,15 @@ ghost use Rattle.store_core.specs.Stores.{class_of, field_value, var_value};
 ghost use Rattle.store_logic.specs.Terms.{null, cell_in};
 ghost use Rattle.store_exec.specs.Steps as steps;
 ghost use Rattle.store_exec.specs.Steps.{assigned, made_of, Step};
-ghost use Rattle.store_exec.specs.Conditions.{IsTold, IsToldBy, Leads};
+ghost use Rattle.store_runner.specs.Conditions.{IsTold, IsToldBy, Leads};
 ghost use Rattle.store_exec.specs.Ready.{IsKnownRhs, TakesClass, TakesFieldClass, field_assigned, IsReady, Steps, Asserts};
 
-use crate::cause::Cause;
-use crate::halt::Halt;
 use crate::reading::{cell_through, operand_value, read_along, variable};
 use crate::truth::{cell_of, truth};
 use plain_data::Stack;
 use std::alloc::{AllocError, Global};
 use store_core::{CellId, FieldId, Store, TypeTable, Value, VarId};
+use store_exec::{Cause, Halt};
 use store_logic::{Act, Assertion, Path, Region, Rhs};
 use store_sat::sat;
 

@@ -5,7 +5,7 @@ ghost use Rattle.store_exec.specs.Acting as acting;
 ghost use Rattle.store_exec.specs.Acting.{acts_of, acts_of_item, acts_of_items, have_assert, code_count};
 ghost use Rattle.store_exec.specs.Going.{weight_of_items};
 
-use crate::code::{Code, Item, Tail};
+use store_exec::{Code, Item, Tail};
 use store_logic::Act;
 
 /// Whether an `assert` stands in the code, in whichever of its parts.

@@ -13,12 +13,11 @@ ghost use Rattle.store_exec.specs.Failing.{IsBlank, StartHolds};
 ghost use Rattle.store_exec.specs.Fits.{ClaimFits, CutFits, StartFits};
 ghost use Rattle.store_exec.specs.Telling.{IsAstray, cause_of_fault};
 
-use crate::cause::Cause;
-use crate::triple::{Claim, Cut, Start};
 use routing_expr::{cut_fault, reached};
 use routing_walks::CutFault;
 use std::alloc::{AllocError, Global};
 use store_core::{CellId, Store, TypeTable, Value, VarId, VarKind, VarTable};
+use store_exec::{Cause, Claim, Cut, Start};
 use store_logic::VarList;
 use store_sat::{has, sat};
 

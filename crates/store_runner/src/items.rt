@@ -6,13 +6,11 @@ ghost use Rattle.store_exec.specs.Ready.{IsReady};
 ghost use Rattle.store_exec.specs.Going.{IsEnded, Enters, CanRun, AtLine, IsDone, IsChosen, left_over, weight_left};
 
 use crate::acts::step;
-use crate::code::Item;
-use crate::fault::Fault;
-use crate::halt::Halt;
 use crate::truth::truth;
 use plain_data::Stack;
 use std::alloc::{AllocError, Global};
 use store_core::{Store, TypeTable, Value};
+use store_exec::{Fault, Halt, Item};
 use store_logic::{Act, Cond};
 
 /// What is done, with the line where it stops.

@@ -5,8 +5,8 @@ ghost use Rattle.store_logic.specs.Terms.{null};
 ghost use Rattle.store_exec.specs.Steps as steps;
 ghost use Rattle.store_exec.specs.Steps.{variable};
 
-use crate::cause::Cause;
 use store_core::{CellId, FieldId, Store, Value, VarId};
+use store_exec::Cause;
 use store_logic::{Operand, Path};
 
 /// The live cell through which something is read or written.

@@ -7,13 +7,11 @@ ghost use Rattle.store_exec.specs.Runs.{RunsCode};
 ghost use Rattle.store_exec.specs.Fits.{CanRunCode};
 ghost use Rattle.store_exec.specs.Going.{IsTruthAt};
 
-use crate::code::{Code, Tail};
-use crate::fault::Fault;
 use crate::items::{at_line, run_items};
-use crate::outcome::Outcome;
 use crate::truth::truth;
 use std::alloc::{AllocError, Global};
 use store_core::{Store, TypeTable, Value};
+use store_exec::{Code, Fault, Outcome, Tail};
 use store_logic::Cond;
 
 /// The truth of the condition of a branch, with the line where it can't be told.

@@ -8,14 +8,13 @@ ghost use Rattle.store_exec.specs.declared.cause.Cause.{Cause};
 ghost use Rattle.store_exec.specs.declared.halt.Halt.TheVariants.{Fails};
 ghost use Rattle.store_exec.specs.Steps as steps;
 ghost use Rattle.store_exec.specs.Steps.{and_then, made_of, truth_of, is_same};
-ghost use Rattle.store_exec.specs.Conditions.{IsTold, resumed, weight_of, Resumes};
+ghost use Rattle.store_runner.specs.Conditions.{IsTold, resumed, weight_of, Resumes};
 
-use crate::cause::Cause;
-use crate::halt::Halt;
 use crate::reading::{cell_through, operand_value, path_value};
 use plain_data::Stack;
 use std::alloc::Global;
 use store_core::{CellId, Store, Value, VariantId};
+use store_exec::{Cause, Halt};
 use store_logic::{Cond, Operand, Path};
 
 /// What waits for the truth of a part.

@@ -12,7 +12,8 @@ use crate::plain::run_items;
 use hoare_split::{Caller, Pick, set_picked};
 use std::alloc::{AllocError, Global};
 use store_core::{Store, TypeTable, VarTable};
-use store_exec::{Cut, Fault, ItemList, at_cut};
+use store_exec::{Cut, Fault, ItemList};
+use store_runner::at_cut;
 use whole_handing::restricted;
 
 /// The store arrives at a cut: without a cause there the run goes on with its logic sets restricted to the live cells.

@@ -11,8 +11,9 @@ ghost use Rattle.whole_exec.specs.Turning.{CanRead, IsToldOf};
 use plain_data::Boxed;
 use std::alloc::{AllocError, Global};
 use store_core::{Store, TypeTable};
-use store_exec::{Code, Fault, Item, ItemList, Outcome, Tail, run};
+use store_exec::{Code, Fault, Item, ItemList, Outcome, Tail};
 use store_logic::{Act, Cond};
+use store_runner::run;
 
 /// Executes items: the store where they end, or the fault that stops them.
 pub(crate) fn run_items(

@@ -1,9 +1,9 @@
 use Rattle.std.proofs.Common.{◌≡◌, [], ◌∷◌, ◌++◌, ◌∙◌, sym, subst, Result}
 use Rattle.store_core.specs.Stores.{StoreMap}
 use Rattle.store_exec.specs.declared.cause.Cause.{Cause}
-use Rattle.store_exec.specs.Conditions.{Leads}
-use Rattle.store_exec.proofs.PlaceLemmas.{assigned-by_field, class-by_field}
-use Rattle.store_exec.proofs.acts.assign.Goals as goal
+use Rattle.store_runner.specs.Conditions.{Leads}
+use Rattle.store_runner.proofs.PlaceLemmas.{assigned-by_field, class-by_field}
+use Rattle.store_runner.proofs.acts.assign.Goals as goal
 
 pub assign_field-requires-clause-class : goal.assign_field-requires-clause-class
 assign_field-requires-clause-class c =

@@ -1,5 +1,5 @@
-use Rattle.store_exec.proofs.PlaceLemmas.{class-found}
-use Rattle.store_exec.proofs.acts.assign_field.Goals as goal
+use Rattle.store_runner.proofs.PlaceLemmas.{class-found}
+use Rattle.store_runner.proofs.acts.assign_field.Goals as goal
 
 pub write-requires : goal.write-requires
 write-requires c = class-found c.args.types.now c.args.store.now _ c.args.var c.args.before.now c.args.last c.args.rhs.now c.in_ok-value.value

@@ -2,7 +2,7 @@ use Rattle.std.proofs.Common.{◌∙◌, sym, ap}
 use Rattle.store_exec.specs.declared.code.Code.{Code}
 use Rattle.store_exec.specs.Acting.{acts_of, have_assert}
 use Rattle.store_exec.proofs.ActingLemmas.{or-first, or-second, items-assert, cut-asserts_not, branch-asserts}
-use Rattle.store_exec.proofs.asserting.+find.Goals as goal
+use Rattle.store_runner.proofs.asserting.+find.Goals as goal
 
 pub returns-then-stands_in_items : goal.returns-then-stands_in_items
 returns-then-stands_in_items t c =

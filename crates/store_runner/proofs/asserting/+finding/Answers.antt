@@ -2,7 +2,7 @@ use Rattle.std.proofs.Common.{◌||◌, ◌+◌, ◌≤◌, ◌∙◌, sym, ap, 
 use Rattle.store_exec.specs.declared.code.Code.{Code}
 use Rattle.store_exec.specs.Acting.{acts_of, have_assert, code_count}
 use Rattle.store_exec.proofs.ActingLemmas.{items-assert, cut-asserts_not, branch-asserts, count-branch}
-use Rattle.store_exec.proofs.asserting.+finding.Goals as goal
+use Rattle.store_runner.proofs.asserting.+finding.Goals as goal
 
 pub find_within-returns-then-stands_in_items : goal.find_within-returns-then-stands_in_items
 find_within-returns-then-stands_in_items t c =

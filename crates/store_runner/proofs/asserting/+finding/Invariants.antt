@@ -1,6 +1,6 @@
 use Rattle.std.proofs.Common.{◌≡◌, ◌+◌, ◌*◌}
 use Rattle.store_exec.specs.Acting.{acts_of, have_assert, code_count}
-use Rattle.store_exec.proofs.asserting.+finding.Given as goal
+use Rattle.store_runner.proofs.asserting.+finding.Given as goal
 
 abbrev pub decreases-find_within : goal.decreases-find_within
 decreases-find_within l = 2 * l.calls + 1

@@ -1,5 +1,5 @@
 use Rattle.store_exec.proofs.ActingLemmas.{taken-asserts, other-asserts}
-use Rattle.store_exec.proofs.asserting.+items.Goals as goal
+use Rattle.store_runner.proofs.asserting.+items.Goals as goal
 
 pub find_in_item-returns-then-find_in_items : goal.find_in_item-returns-then-find_in_items
 find_in_item-returns-then-find_in_items t c =

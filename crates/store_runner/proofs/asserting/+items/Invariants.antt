@@ -1,6 +1,6 @@
 use Rattle.std.proofs.Common.{◌≡◌, drop}
 use Rattle.store_exec.specs.Acting.{acts_of_items, have_assert}
-use Rattle.store_exec.proofs.asserting.+items.Given as goal
+use Rattle.store_runner.proofs.asserting.+items.Given as goal
 
 -- what is left has an `assert` where the whole has one
 abbrev pub invariant-find_in_items-loop-item : goal.invariant-find_in_items-loop-item

@@ -1,5 +1,5 @@
-use Rattle.store_exec.proofs.StandingLemmas.{Do-lighter, If-found, If-lighter, If-left, If-left-lighter}
-use Rattle.store_exec.proofs.asserting.+standing.Goals as goal
+use Rattle.store_runner.proofs.StandingLemmas.{Do-lighter, If-found, If-lighter, If-left, If-left-lighter}
+use Rattle.store_runner.proofs.asserting.+standing.Goals as goal
 
 pub stands_in_first-returns-in-Do-clause-less : goal.stands_in_first-returns-in-Do-clause-less
 stands_in_first-returns-in-Do-clause-less t c = Do-lighter c.args.item.now c.in-Do.field-0 c.in-Do.act c.args.more.now c.in-Do.is

@@ -1,7 +1,7 @@
 use Rattle.std.proofs.Common.{◌≡◌, ◌+◌, ◌*◌}
 use Rattle.store_exec.specs.Acting.{acts_of_items, have_assert}
 use Rattle.store_exec.specs.Going.{weight_of_items}
-use Rattle.store_exec.proofs.asserting.+standing.Given as goal
+use Rattle.store_runner.proofs.asserting.+standing.Given as goal
 
 abbrev pub decreases-stands_within : goal.decreases-stands_within
 decreases-stands_within l = 3 * l.calls + 2

@@ -2,7 +2,7 @@ use Rattle.std.proofs.Common.{arith, sym, ◌∙◌}
 use Rattle.std.proofs.lemmas.Bool.{false≢true}
 use Rattle.store_exec.specs.Telling.{IsAstray}
 use Rattle.store_exec.proofs.CutLemmas.{astray-known, none-next}
-use Rattle.store_exec.proofs.cuts.any_astray.Goals as goal
+use Rattle.store_runner.proofs.cuts.any_astray.Goals as goal
 
 pub loop-index-preserved : goal.loop-index-preserved
 loop-index-preserved c = none-next (λ n. IsAstray c.args.vars.now c.args.store.now c.args.cells.now c.args.inside.now (record { 0 = n })) c.loop-index.index

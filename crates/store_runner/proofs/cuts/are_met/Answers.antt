@@ -3,7 +3,7 @@ use Rattle.std.proofs.lemmas.List.{take_all}
 use Rattle.std.proofs.lemmas.List.Elements.{All-more}
 use Rattle.store_exec.specs.declared.triple.Claim.{Claim}
 use Rattle.store_exec.specs.Cuts.{IsMet}
-use Rattle.store_exec.proofs.cuts.are_met.Goals as goal
+use Rattle.store_runner.proofs.cuts.are_met.Goals as goal
 
 pub loop-claim-preserved : goal.loop-claim-preserved
 loop-claim-preserved c = All-more (IsMet c.args.types.now c.args.vars.now c.args.store.now) c.args.claims.now c.loop-claim.claim-index c.claim-item.result

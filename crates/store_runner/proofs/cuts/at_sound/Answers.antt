@@ -4,7 +4,7 @@ use Rattle.store_core.specs.declared.ids.VarId.{VarId}
 use Rattle.store_exec.specs.declared.triple.Claim.{Claim}
 use Rattle.store_exec.specs.Cuts.{Escapes, AreMet}
 use Rattle.store_exec.proofs.CutLemmas.{at-escape, at-post, at-none}
-use Rattle.store_exec.proofs.cuts.at_sound.Goals as goal
+use Rattle.store_runner.proofs.cuts.at_sound.Goals as goal
 
 pub returns-then-escapes : goal.returns-then-escapes
 returns-then-escapes c =

@@ -1,7 +1,7 @@
 use Rattle.std.proofs.Common.{◌↔◌, List, Option, IsSomeAnd, IsTrue, IfOk, subst, sym}
 use Rattle.store_core.specs.declared.ids.VarId.{VarId}
 use Rattle.store_exec.specs.Cuts.{Escapes}
-use Rattle.store_exec.proofs.cuts.escapes_at.Goals as goal
+use Rattle.store_runner.proofs.cuts.escapes_at.Goals as goal
 
 pub returns-in-Some : goal.returns-in-Some
 returns-in-Some c = subst (λ (o : Option (List VarId)). IfOk c.has_escape.result

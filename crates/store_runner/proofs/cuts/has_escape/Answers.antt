@@ -3,7 +3,7 @@ use Rattle.store_core.specs.declared.ids.VarId.{VarId}
 use Rattle.store_core.specs.declared.ids.CellId.{CellId}
 use Rattle.store_exec.specs.Telling.{IsAstray}
 use Rattle.store_exec.proofs.CutLemmas.{escapes-by}
-use Rattle.store_exec.proofs.cuts.has_escape.Goals as goal
+use Rattle.store_runner.proofs.cuts.has_escape.Goals as goal
 
 pub returns : goal.returns
 returns c =

@@ -1,6 +1,6 @@
 use Rattle.std.proofs.lemmas.Bool.{false≢true}
 use Rattle.store_exec.proofs.CutLemmas.{astray-by, not-astray}
-use Rattle.store_exec.proofs.cuts.is_astray.Goals as goal
+use Rattle.store_runner.proofs.cuts.is_astray.Goals as goal
 
 pub returns-in-None : goal.returns-in-None
 returns-in-None c = (

@@ -3,7 +3,7 @@ use Rattle.store_exec.specs.declared.fault.Fault.{Fault}
 use Rattle.store_exec.specs.declared.code.Item.{Item}
 use Rattle.store_exec.specs.Going.{IsChosen}
 use Rattle.store_exec.proofs.GoingLemmas.{Do-ready, Do-next, Do-fault, If-entered}
-use Rattle.store_exec.proofs.items.enter.Goals as goal
+use Rattle.store_runner.proofs.items.enter.Goals as goal
 
 pub do_act-requires-clause-ready : goal.do_act-requires-clause-ready
 do_act-requires-clause-ready c = Do-ready c.args.types.now c.args.store.now c.args.more.now c.args.waiting.now c.args.item.now c.requires.can c.in-Do.line

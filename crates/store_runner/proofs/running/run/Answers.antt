@@ -7,10 +7,10 @@ use Rattle.store_exec.specs.Steps.{truth_of}
 use Rattle.store_exec.specs.Runs.{RunsCode}
 use Rattle.store_exec.specs.Going.{CanRun}
 use Rattle.store_exec.specs.Fits.{CanRunCode}
-use Rattle.store_exec.proofs.AnswerLemmas.{ended, stopped, told, untold}
+use Rattle.store_runner.proofs.AnswerLemmas.{ended, stopped, told, untold}
 use Rattle.store_exec.proofs.CanRunLemmas.{items-can, branch-can}
 use Rattle.store_exec.proofs.CodeLemmas.{items-stop, items-cut, branch-true, branch-false, branch-stop}
-use Rattle.store_exec.proofs.running.run.Goals as goal
+use Rattle.store_runner.proofs.running.run.Goals as goal
 
 pub run_items-requires-clause-can : goal.run_items-requires-clause-can
 run_items-requires-clause-can c = subst (λ (xs : List Item). CanRun c.args.types.now c.loop-at.at xs) (sym c.as_slice.ensures)

@@ -3,7 +3,7 @@ use Rattle.store_logic.specs.Terms.{null}
 use Rattle.store_exec.specs.declared.outcome.Outcome.{Outcome}
 use Rattle.store_exec.specs.Runs.{RunsCode}
 use Rattle.store_exec.specs.Fits.{CanRunCode}
-use Rattle.store_exec.proofs.running.run.Given as goal
+use Rattle.store_runner.proofs.running.run.Given as goal
 
 abbrev pub invariant-loop-at : goal.invariant-loop-at
 invariant-loop-at l =

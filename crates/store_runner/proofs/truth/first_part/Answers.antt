@@ -4,9 +4,9 @@ use Rattle.store_logic.specs.declared.cond.Cond.TheFolds.{fold-roll-Cond}
 use Rattle.store_logic.specs.declared.cond.Cond.TheVariants.{rolls-Bool, rolls-Is, rolls-Same}
 use Rattle.store_exec.specs.declared.cause.Cause.{Cause}
 use Rattle.store_exec.specs.Steps.{truth_of, truth_node}
-use Rattle.store_exec.specs.Conditions.{resumed}
-use Rattle.store_exec.proofs.TruthLemmas.{answered}
-use Rattle.store_exec.proofs.truth.first_part.Goals as goal
+use Rattle.store_runner.specs.Conditions.{resumed}
+use Rattle.store_runner.proofs.TruthLemmas.{answered}
+use Rattle.store_runner.proofs.truth.first_part.Goals as goal
 
 pub returns-in-Bool-clause-told : goal.returns-in-Bool-clause-told
 returns-in-Bool-clause-told c = answered c.args.store.now c.args.waiting.now c.loop-cond.waiting (truth_of c.args.store.now c.args.cond.now) c.truth_at.result

@@ -1,8 +1,8 @@
 use Rattle.std.proofs.Common.{◌≡◌, ◌+◌}
 use Rattle.store_logic.specs.PostfixConds.{form_count}
 use Rattle.store_exec.specs.Steps.{truth_of}
-use Rattle.store_exec.specs.Conditions.{resumed, weight_of}
-use Rattle.store_exec.proofs.truth.first_part.Given as goal
+use Rattle.store_runner.specs.Conditions.{resumed, weight_of}
+use Rattle.store_runner.proofs.truth.first_part.Given as goal
 
 abbrev pub invariant-loop-cond : goal.invariant-loop-cond
 invariant-loop-cond l =

@@ -1,7 +1,7 @@
 use Rattle.std.proofs.Common.{◌≡◌, ◌≤◌, Ok, length}
 use Rattle.store_core.specs.Stores.{StoreMap}
-use Rattle.store_exec.specs.Conditions.{resumed, weight_of}
-use Rattle.store_exec.proofs.truth.resume.Given as goal
+use Rattle.store_runner.specs.Conditions.{resumed, weight_of}
+use Rattle.store_runner.proofs.truth.resume.Given as goal
 
 abbrev pub invariant-loop-next : goal.invariant-loop-next
 invariant-loop-next l =

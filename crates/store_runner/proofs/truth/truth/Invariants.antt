@@ -1,8 +1,8 @@
 use Rattle.std.proofs.Common.{◌≡◌, ◌+◌}
 use Rattle.store_logic.specs.PostfixConds.{form_count}
 use Rattle.store_exec.specs.Steps.{truth_of}
-use Rattle.store_exec.specs.Conditions.{resumed, weight_of}
-use Rattle.store_exec.proofs.truth.truth.Given as goal
+use Rattle.store_runner.specs.Conditions.{resumed, weight_of}
+use Rattle.store_runner.proofs.truth.truth.Given as goal
 
 abbrev pub invariant-loop-waiting : goal.invariant-loop-waiting
 invariant-loop-waiting l = truth_of l.store l.fn.cond ≡ resumed l.store l.waiting (truth_of l.store l.cond)

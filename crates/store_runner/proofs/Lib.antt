@@ -1,0 +1,4 @@
+mod TruthLemmas
+mod PlaceLemmas
+mod AnswerLemmas
+mod StandingLemmas
