@@ -3,10 +3,9 @@
 ghost use Rattle.std.specs.Prelude.{◌≡◌, None, IfOk, IfErr, OnOk};
 ghost use Rattle.pale_tables.specs.Faults.{IsStop};
 ghost use Rattle.pale_terms.specs.Terms.{compared_fault, variant_test_fault};
-ghost use Rattle.pale_assertions.specs.Atoms.{truth_fault, truth_of, member_fault, member_of, subset_fault, subset_of, walk_fault, walk_of};
-ghost use Rattle.pale_assertions.specs.Atoms.{sets_fault, sets_of, same_of, is_of, is_in_type};
+ghost use Rattle.pale_vocabulary.specs.Atoms.{truth_fault, truth_of, member_fault, member_of, subset_fault, subset_of, walk_fault, walk_of};
+ghost use Rattle.pale_vocabulary.specs.Atoms.{sets_fault, sets_of, same_of, is_of, is_in_type};
 
-use crate::vocabulary::Vocabulary;
 use pale_syntax::{Name, Path, Route as SourceRoute, Term as SourceTerm};
 use pale_tables::{Followed, need, read_route};
 use pale_terms::{
@@ -14,12 +13,13 @@ use pale_terms::{
     read_variant_test,
 };
 use pale_text::{Pos, Refusal, RefusalKind, TextStop};
+use pale_vocabulary::Vocabulary;
 use std::alloc::Global;
 use store_core::{TypeId, TypeTable};
 use store_logic::Assertion;
 
 /// A path alone, whose truth is asked.
-#[tactic(auto, unfolding(crate::specs::Atoms::truth_fault, crate::specs::Atoms::truth_of))]
+#[tactic(auto, unfolding(pale_vocabulary::specs::Atoms::truth_fault, pale_vocabulary::specs::Atoms::truth_of))]
 pub fn read_truth(
     alloc: Global,
     types: &TypeTable,
@@ -36,7 +36,7 @@ pub fn read_truth(
 }
 
 /// `t = u`
-#[tactic(auto, unfolding(crate::specs::Atoms::same_of))]
+#[tactic(auto, unfolding(pale_vocabulary::specs::Atoms::same_of))]
 pub fn read_same(
     alloc: Global,
     types: &TypeTable,
@@ -64,7 +64,7 @@ fn is_in_type(ty: Option<TypeId>, set: Sort) -> bool
 }
 
 /// `t in S`
-#[tactic(auto, unfolding(crate::specs::Atoms::member_fault, crate::specs::Atoms::member_of))]
+#[tactic(auto, unfolding(pale_vocabulary::specs::Atoms::member_fault, pale_vocabulary::specs::Atoms::member_of))]
 pub fn read_member(
     alloc: Global,
     types: &TypeTable,
@@ -88,7 +88,7 @@ pub fn read_member(
 }
 
 /// `S sub U` of two names.
-#[tactic(auto, unfolding(crate::specs::Atoms::sets_fault, crate::specs::Atoms::sets_of))]
+#[tactic(auto, unfolding(pale_vocabulary::specs::Atoms::sets_fault, pale_vocabulary::specs::Atoms::sets_of))]
 fn read_subset_of(
     scope: &Scope,
     path: &Path,
@@ -123,7 +123,7 @@ pub fn read_subset(
 }
 
 /// `t <R> u`
-#[tactic(auto, unfolding(crate::specs::Atoms::walk_fault, crate::specs::Atoms::walk_of))]
+#[tactic(auto, unfolding(pale_vocabulary::specs::Atoms::walk_fault, pale_vocabulary::specs::Atoms::walk_of))]
 pub fn read_walk(
     alloc: Global,
     vocabulary: &Vocabulary,
@@ -144,7 +144,7 @@ pub fn read_walk(
 }
 
 /// `t : v`
-#[tactic(auto, unfolding(crate::specs::Atoms::is_of))]
+#[tactic(auto, unfolding(pale_vocabulary::specs::Atoms::is_of))]
 pub fn read_is(
     alloc: Global,
     types: &TypeTable,

@@ -20,8 +20,8 @@ use Rattle.routing_walks.proofs.DecidedLemmas.{in_none}
 use Rattle.graph_view.specs.Fields.{has_kind}
 use Rattle.graph_meaning.proofs.walks.ListedLemmas.{field-listed}
 use Rattle.witness_store.specs.Alike.{AreFunctional}
-use Rattle.pale_types.specs.TypedPrograms.{TypedProgram}
-use Rattle.pale_types.specs.Fitting.{ProgramFits}
+use Rattle.pale_typed.specs.TypedPrograms.{TypedProgram}
+use Rattle.pale_typed.specs.Fitting.{ProgramFits}
 use Rattle.hoare_split.specs.Fitting.{FitsProgram}
 use Rattle.field_judge.specs.OneEach.{type_vars}
 use Rattle.triple_judge.proofs.ExistenceLemmas.{judged-somehow}

@@ -10,7 +10,7 @@ ghost use Rattle.store_exec.specs.Steps as steps;
 
 use crate::cells::{is_member, store_of};
 use pale_calls::Actual;
-use pale_types::{CallParts, TypedProc};
+use pale_typed::{CallParts, TypedProc};
 use plain_data::Items;
 use std::alloc::{AllocError, Global};
 use store_core::{CellId, CellList, Store, Value, VarId, VarKind, VarTable, copy_values};

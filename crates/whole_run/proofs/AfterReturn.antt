@@ -18,9 +18,9 @@ use Rattle.routing_walks.specs.Walks.{IsOfType}
 use Rattle.store_exec.specs.Steps.{variable}
 use Rattle.store_exec.specs.Restricted.{live_part, restricted}
 use Rattle.pale_calls.specs.Classes.{class_of, holds_cell, is_logic}
-use Rattle.pale_types.specs.declared.typed.CallParts.{CallParts}
-use Rattle.pale_types.specs.declared.typed.ProcEntry.{ProcEntry}
-use Rattle.pale_types.specs.Fitting.{kind_at, IsLogicVariable, IsProgramVariable, IsLike}
+use Rattle.pale_typed.specs.declared.typed.CallParts.{CallParts}
+use Rattle.pale_typed.specs.declared.typed.ProcEntry.{ProcEntry}
+use Rattle.pale_typed.specs.Fitting.{kind_at, IsLogicVariable, IsProgramVariable, IsLike}
 use Rattle.hoare_split.specs.Picking.{class_at, is_argument, is_listed}
 use Rattle.hoare_split.proofs.FittingVariableLemmas.{all-at}
 use Rattle.whole_run.specs.Handing.{rest_store, value_after, beside_rest, returned_store}

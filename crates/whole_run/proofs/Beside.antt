@@ -24,7 +24,7 @@ use Rattle.routing_walks.proofs.PieceLemmas.{piece_on-IsOn}
 use Rattle.routing_walks.proofs.RegionLemmas.{number_in, number_out}
 use Rattle.store_logic.specs.Terms.{null}
 use Rattle.store_exec.specs.Steps.{variable}
-use Rattle.pale_types.specs.declared.typed.CallParts.{CallParts}
+use Rattle.pale_typed.specs.declared.typed.CallParts.{CallParts}
 use Rattle.hoare_split.specs.Picking.{class_at, is_listed, is_argument, is_spent, numbered}
 use Rattle.hoare_split.proofs.FittingVariableLemmas.{same-var}
 use Rattle.whole_run.specs.Handing.{rest_store, value_after, beside_rest}

@@ -26,10 +26,10 @@ use Rattle.store_exec.specs.Steps.{variable}
 use Rattle.pale_calls.specs.declared.actual.Actual.{Actual}
 use Rattle.pale_calls.specs.declared.actual.Actual.TheVariants as actual
 use Rattle.pale_calls.specs.Classes.{class_of, holds_cell, is_logic}
-use Rattle.pale_types.specs.declared.typed.CallParts.{CallParts}
-use Rattle.pale_types.specs.declared.typed.ProcEntry.{ProcEntry}
-use Rattle.pale_types.specs.Sights.{numbers}
-use Rattle.pale_types.specs.Fitting.{kind_at, IsOfClass, IsLogicVariable, IsProgramVariable, ActualFits, cell_in, cells_in}
+use Rattle.pale_typed.specs.declared.typed.CallParts.{CallParts}
+use Rattle.pale_typed.specs.declared.typed.ProcEntry.{ProcEntry}
+use Rattle.pale_typed.specs.Variables.{numbers}
+use Rattle.pale_typed.specs.Fitting.{kind_at, IsOfClass, IsLogicVariable, IsProgramVariable, ActualFits, cell_in, cells_in}
 use Rattle.hoare_split.specs.Picking.{class_at, is_data, is_listed}
 use Rattle.hoare_split.specs.Calls.{handed_by, variable_in}
 use Rattle.hoare_split.proofs.FittingVariableLemmas.{same-var}

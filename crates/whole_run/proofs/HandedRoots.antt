@@ -34,10 +34,10 @@ use Rattle.pale_calls.specs.declared.actual.Actual.{Actual}
 use Rattle.pale_calls.specs.declared.actual.Actual.TheVariants as actual
 use Rattle.pale_calls.specs.declared.class.VarClass.TheVariants as class
 use Rattle.pale_calls.specs.Classes.{class_of, holds_cell, holds_truth, is_logic}
-use Rattle.pale_types.specs.declared.typed.CallParts.{CallParts}
-use Rattle.pale_types.specs.declared.typed.ProcEntry.{ProcEntry}
-use Rattle.pale_types.specs.Sights.{numbers}
-use Rattle.pale_types.specs.Fitting.{kind_at, IsLogicVariable, IsProgramVariable, ActualFits, cell_in, cells_in}
+use Rattle.pale_typed.specs.declared.typed.CallParts.{CallParts}
+use Rattle.pale_typed.specs.declared.typed.ProcEntry.{ProcEntry}
+use Rattle.pale_typed.specs.Variables.{numbers}
+use Rattle.pale_typed.specs.Fitting.{kind_at, IsLogicVariable, IsProgramVariable, ActualFits, cell_in, cells_in}
 use Rattle.hoare_split.specs.Picking.{class_at, is_data}
 use Rattle.hoare_split.specs.Calls.{handed_by}
 use Rattle.whole_run.specs.Handing.{handed_value, blank_at, handed_vars, handed_store}

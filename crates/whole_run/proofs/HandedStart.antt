@@ -40,9 +40,9 @@ use Rattle.pale_calls.specs.declared.actual.Actual.{Actual}
 use Rattle.pale_calls.specs.declared.actual.Actual.TheVariants as actual
 use Rattle.pale_calls.specs.declared.class.VarClass.{VarClass}
 use Rattle.pale_calls.specs.Classes.{class_of, holds_cell, holds_truth, is_logic}
-use Rattle.pale_types.specs.declared.typed.CallParts.{CallParts}
-use Rattle.pale_types.specs.declared.typed.ProcEntry.{ProcEntry}
-use Rattle.pale_types.specs.Fitting.{kind_at, IsProgramVariable, ActualFits, CallFits, ProcFits}
+use Rattle.pale_typed.specs.declared.typed.CallParts.{CallParts}
+use Rattle.pale_typed.specs.declared.typed.ProcEntry.{ProcEntry}
+use Rattle.pale_typed.specs.Fitting.{kind_at, IsProgramVariable, ActualFits, CallFits, ProcFits}
 use Rattle.hoare_fill.specs.declared.putting.Put.{Put}
 use Rattle.hoare_split.specs.Picking.{is_listed, those, is_fresh}
 use Rattle.hoare_fill.specs.Putting.{beside, actual_for}

@@ -26,7 +26,7 @@ use Rattle.store_exec.specs.Frames.{WritesVar, Leave}
 use Rattle.store_exec.proofs.KeepLemmas.{place-of}
 use Rattle.store_exec.proofs.FrameSteps.{Alone, Step-goes}
 use Rattle.pale_calls.specs.Classes.{class_of, is_logic}
-use Rattle.pale_types.specs.Fitting.{IsLogicVariable}
+use Rattle.pale_typed.specs.Fitting.{IsLogicVariable}
 use Rattle.whole_run.specs.Leaving.{CameOf}
 use Rattle.whole_run.proofs.HandedStart.{variable_now}
 

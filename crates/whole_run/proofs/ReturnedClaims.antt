@@ -39,9 +39,9 @@ use Rattle.store_exec.specs.Restricted.{live_part, restricted}
 use Rattle.pale_calls.specs.declared.actual.Actual.{Actual}
 use Rattle.pale_calls.specs.declared.actual.Actual.TheVariants as actual
 use Rattle.pale_calls.specs.Classes.{class_of, holds_cell, is_logic}
-use Rattle.pale_types.specs.declared.typed.CallParts.{CallParts}
-use Rattle.pale_types.specs.declared.typed.ProcEntry.{ProcEntry}
-use Rattle.pale_types.specs.Fitting.{kind_at, IsLogicVariable, IsProgramVariable}
+use Rattle.pale_typed.specs.declared.typed.CallParts.{CallParts}
+use Rattle.pale_typed.specs.declared.typed.ProcEntry.{ProcEntry}
+use Rattle.pale_typed.specs.Fitting.{kind_at, IsLogicVariable, IsProgramVariable}
 use Rattle.whole_run.proofs.Handed.{some_same, kind_entry, value_there}
 use Rattle.whole_run.proofs.HandedStart.{left_in, kept_in}
 use Rattle.whole_run.proofs.Holding.{Alike}

@@ -37,10 +37,10 @@ use Rattle.store_exec.specs.Steps.{variable}
 use Rattle.store_exec.specs.Restricted.{restricted}
 use Rattle.store_exec.proofs.RestrictedLemmas.{restricted-well_formed}
 use Rattle.pale_calls.specs.Classes.{class_of, holds_cell}
-use Rattle.pale_types.specs.declared.typed.CallParts.{CallParts}
-use Rattle.pale_types.specs.declared.typed.ProcEntry.{ProcEntry}
-use Rattle.pale_types.specs.Sights.{numbers}
-use Rattle.pale_types.specs.Fitting.{kind_at, IsLike}
+use Rattle.pale_typed.specs.declared.typed.CallParts.{CallParts}
+use Rattle.pale_typed.specs.declared.typed.ProcEntry.{ProcEntry}
+use Rattle.pale_typed.specs.Variables.{numbers}
+use Rattle.pale_typed.specs.Fitting.{kind_at, IsLike}
 use Rattle.hoare_split.specs.Picking.{class_at, is_pointer, is_listed, is_argument, is_spent, numbered}
 use Rattle.hoare_split.specs.Calls.{handed_by}
 use Rattle.whole_run.specs.Handing.{rest_store, value_after, beside_rest}

@@ -39,10 +39,10 @@ use Rattle.store_exec.specs.Failing.{StartHolds}
 use Rattle.pale_calls.specs.declared.actual.Actual.{Actual}
 use Rattle.pale_calls.specs.declared.actual.Actual.TheVariants as actual
 use Rattle.pale_calls.specs.Classes.{class_of, holds_cell, holds_truth, is_logic}
-use Rattle.pale_types.specs.declared.typed.CallParts.{CallParts}
-use Rattle.pale_types.specs.declared.typed.ProcEntry.{ProcEntry}
-use Rattle.pale_types.specs.Fitting.{kind_at, IsOfClass, IsLogicVariable, IsProgramVariable, IsLike, ActualFits, IsUntouched, CallFits, ProcFits}
-use Rattle.pale_types.specs.Fitting.{cell_in, cells_in}
+use Rattle.pale_typed.specs.declared.typed.CallParts.{CallParts}
+use Rattle.pale_typed.specs.declared.typed.ProcEntry.{ProcEntry}
+use Rattle.pale_typed.specs.Fitting.{kind_at, IsOfClass, IsLogicVariable, IsProgramVariable, IsLike, ActualFits, IsUntouched, CallFits, ProcFits}
+use Rattle.pale_typed.specs.Fitting.{cell_in, cells_in}
 use Rattle.hoare_split.specs.Picking.{class_at, is_pointer, is_listed, is_argument, is_spent, those, is_left, is_awaited}
 use Rattle.hoare_fill.specs.Putting.{beside, actual_for}
 use Rattle.hoare_split.specs.Calls.{handed_by, returned_by, post_for, post_of, on_all, on_part_and_rest, pre_of}

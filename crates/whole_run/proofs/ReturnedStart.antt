@@ -41,10 +41,10 @@ use Rattle.store_exec.specs.Cuts.{IsPointerVar, PointsTo, Escapes}
 use Rattle.store_exec.specs.Failing.{IsBlank}
 use Rattle.pale_calls.specs.declared.class.VarClass.TheVariants as class
 use Rattle.pale_calls.specs.Classes.{class_of, holds_cell}
-use Rattle.pale_types.specs.declared.typed.CallParts.{CallParts}
-use Rattle.pale_types.specs.declared.typed.ProcEntry.{ProcEntry}
-use Rattle.pale_types.specs.Sights.{numbers}
-use Rattle.pale_types.specs.Fitting.{kind_at, IsLike}
+use Rattle.pale_typed.specs.declared.typed.CallParts.{CallParts}
+use Rattle.pale_typed.specs.declared.typed.ProcEntry.{ProcEntry}
+use Rattle.pale_typed.specs.Variables.{numbers}
+use Rattle.pale_typed.specs.Fitting.{kind_at, IsLike}
 use Rattle.hoare_split.specs.Picking.{class_at, is_data, is_pointer, is_listed, is_argument, is_spent, is_gained, those}
 use Rattle.hoare_split.specs.Calls.{handed_by, returned_by}
 use Rattle.hoare_split.proofs.FittingVariableLemmas.{those-all, contained-listed}

@@ -16,8 +16,8 @@ use Rattle.store_exec.specs.Steps.{variable}
 use Rattle.store_exec.specs.Restricted.{restricted}
 use Rattle.pale_calls.specs.declared.actual.Actual.{Actual}
 use Rattle.pale_calls.specs.declared.actual.Actual.TheVariants as actual
-use Rattle.pale_types.specs.declared.typed.CallParts.{CallParts}
-use Rattle.pale_types.specs.declared.typed.ProcEntry.{ProcEntry}
+use Rattle.pale_typed.specs.declared.typed.CallParts.{CallParts}
+use Rattle.pale_typed.specs.declared.typed.ProcEntry.{ProcEntry}
 use Rattle.hoare_split.specs.Picking.{class_at, numbered, is_spent}
 
 -- ---- before the callee runs

@@ -1,6 +1,0 @@
-pub mod Heads
-pub mod Arguments
-pub mod Atoms
-pub mod Connectives
-pub mod Quantifiers
-pub mod Assertions
