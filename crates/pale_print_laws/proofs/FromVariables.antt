@@ -133,7 +133,8 @@ record LocalsMade (start end : List Token) : Type 0 where
   free : All IsFreeParameter parameters
   short : each_size local_size parameters + length end ≤ length start
 
-pub locals_made : (room : ℕ) (start end : List Token) (several : Several program_meaning part.Local room start end) (ps : List Parameter) → All IsFreeParameter ps →
+pub locals_made : (room : ℕ) (start end : List Token) (several : Several program_meaning part.Local room start end) (ps : List Parameter) →
+    All IsFreeParameter ps →
     (first : List Token) → each_size local_size ps + length start ≤ length first → (parts : Parts) →
     (made : LocalsMade first end)
     × (puts program_meaning part.Local room start end several (record parts { variables = ps }) ≡ record parts { variables = made.parameters })

@@ -143,14 +143,15 @@ set_fit s n target numbers x e fine = elim (cases (members_after [] numbers)) [
       )
 ]
 
-pub holds_fit : (s : StoreMap) (n : ℕ) (h : Holds) (sp : Spelled) (x : Value) → value_for h sp ≡ Ok x → AllByRecursion (Fine s) (mentions_of n h x) → HoldsFit s h x
+pub holds_fit : (s : StoreMap) (n : ℕ) (h : Holds) (sp : Spelled) (x : Value) → value_for h sp ≡ Ok x → AllByRecursion (Fine s) (mentions_of n h x) →
+    HoldsFit s h x
 unfolding value_for
-pub holds_fit s n holds.Truth (spelled.Truth b) x e fine = let same : value.Bool b ≡ x = cc in subst (HoldsFit s holds.Truth) same tt
+holds_fit s n holds.Truth (spelled.Truth b) x e fine = let same : value.Bool b ≡ x = cc in subst (HoldsFit s holds.Truth) same tt
 holds_fit s n holds.Truth spelled.Null x e fine = absurd (cc)
 holds_fit s n holds.Truth (spelled.Number m) x e fine = absurd (cc)
 holds_fit s n holds.Truth (spelled.Numbers ms) x e fine = absurd (cc)
 holds_fit s n (holds.Reference target) (spelled.Truth b) x e fine = absurd (cc)
-pub holds_fit s n (holds.Reference target) spelled.Null x e fine = let same : value.Cell None ≡ x = cc in subst (HoldsFit s (holds.Reference target)) same tt
+holds_fit s n (holds.Reference target) spelled.Null x e fine = let same : value.Cell None ≡ x = cc in subst (HoldsFit s (holds.Reference target)) same tt
 holds_fit s n (holds.Reference target) (spelled.Number m) x e fine =
     let same : value.Cell (Some (record { 0 = m })) ≡ x = cc in
     let here = subst (λ y. AllByRecursion (Fine s) (mentions_of n (holds.Reference target) y)) (sym same) fine in
