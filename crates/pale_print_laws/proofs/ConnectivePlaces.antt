@@ -1,5 +1,5 @@
 -- What follows an assertion at each place, and a form that stands at a place that asks for less.
-use Rattle.std.proofs.Common.{◌≡◌, ℕ, Bool, true, false, List, ◌∷◌, refl, sym, subst, inl, inr}
+use Rattle.std.proofs.Common.{◌≡◌, ℕ, Bool, true, false, List, ◌∷◌, refl, sym, subst, inl, inr, []}
 use Rattle.ll1_reader.specs.declared.symbol.Symbol.TheVariants.{Once, Maybe, Many}
 use Rattle.pale_syntax.specs.declared.grammar.part.ProgramPart.{ProgramPart}
 use Rattle.pale_syntax.specs.declared.grammar.part.ProgramPart.TheVariants as part

@@ -1,6 +1,6 @@
 -- All assertions are read as they are spelled.
 use Rattle.std.specs.Prelude.{nat_lt}
-use Rattle.std.proofs.Common.{◌≡◌, ℕ, ◌+◌, ◌≤◌, Bool, true, false, List, ◌∷◌, ◌++◌, map, refl, sym, subst, append_assoc, append-nil, inl, inr}
+use Rattle.std.proofs.Common.{◌≡◌, ℕ, ◌+◌, ◌≤◌, Bool, true, false, List, ◌∷◌, ◌++◌, map, refl, sym, subst, append_assoc, append-nil, inl, inr, []}
 use Rattle.ll1_reader.specs.declared.symbol.Symbol.TheVariants.{Read, Open, Once, Maybe, Many}
 use Rattle.ll1_reader.specs.Readings.{Row}
 use Rattle.pale_syntax.specs.declared.grammar.act.AtomAct.TheVariants as atoms

@@ -1,5 +1,5 @@
 -- Procedures that a reading makes are canonical, and spelled in no more tokens than they were read from.
-use Rattle.std.proofs.Common.{◌+◌, ◌≤◌, None, length, ap, sym, ◌≡◌, inl, inr, ℕ, suc, List, ◌∷◌, Option, Some, refl, subst, arith}
+use Rattle.std.proofs.Common.{◌+◌, ◌≤◌, None, length, ap, sym, ◌≡◌, inl, inr, ℕ, suc, List, ◌∷◌, Option, Some, refl, subst, arith, []}
 use Rattle.ll1_reader.specs.declared.symbol.Symbol.TheVariants.{Maybe, Many}
 use Rattle.pale_syntax.specs.declared.grammar.act.ProcedureAct.TheVariants as procedures
 use Rattle.pale_syntax.specs.declared.grammar.act.StatementAct.TheVariants as statements

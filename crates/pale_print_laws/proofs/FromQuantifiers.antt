@@ -1,5 +1,5 @@
 -- Rows of quantifiers and of assertions in brackets are sound: what is read by one is written by it again.
-use Rattle.std.proofs.Common.{◌+◌, ◌≤◌, length, arith, ◌≡◌, inl, inr, ℕ, suc, Bool, true, false, List, ◌∷◌, ◌++◌, Some, refl}
+use Rattle.std.proofs.Common.{◌+◌, ◌≤◌, length, arith, ◌≡◌, inl, inr, ℕ, suc, Bool, true, false, List, ◌∷◌, ◌++◌, Some, refl, []}
 use Rattle.std.proofs.Common.{sym, ap, ◌∙◌, subst, append_assoc, append-nil}
 use Rattle.ll1_reader.specs.declared.symbol.Symbol.TheVariants.{Read, Once}
 use Rattle.pale_syntax.specs.declared.grammar.act.ConnectiveAct.TheVariants as connectives

@@ -1,5 +1,5 @@
 -- Rows of parameters, local variables, results and logic variables are sound: what is read by one is written by it again.
-use Rattle.std.proofs.Common.{◌+◌, ◌≤◌, length, sym, ◌≡◌, ℕ, suc, List, ◌∷◌, ◌++◌, Some, refl, subst, arith}
+use Rattle.std.proofs.Common.{◌+◌, ◌≤◌, length, sym, ◌≡◌, ℕ, suc, List, ◌∷◌, ◌++◌, Some, refl, subst, arith, []}
 use Rattle.pale_syntax.specs.declared.grammar.part.ProgramPart.TheVariants as part
 use Rattle.pale_text.specs.declared.token.Token.{Token}
 use Rattle.pale_syntax.specs.declared.tree.declaration.LogicParameter.{LogicParameter}

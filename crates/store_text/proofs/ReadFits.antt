@@ -1,5 +1,5 @@
 -- A store that was read fits its tables. The mentions that are no fault at the end are those of each value that was said.
-use Rattle.std.proofs.Common.{◌≡◌, ℕ, zero, suc, ◌+◌, ◌<◌, ◌≤◌, ◌==◌, ◌&&◌, Bool, true, false, cond, nat_lt, List, ◌∷◌, ◌++◌, length, map}
+use Rattle.std.proofs.Common.{◌≡◌, ℕ, zero, suc, ◌+◌, ◌<◌, ◌≤◌, ◌==◌, ◌&&◌, Bool, true, false, cond, nat_lt, List, ◌∷◌, ◌++◌, length, map, []}
 use Rattle.std.proofs.Common.{slice_set, Option, Some, None, Ok, IfSome, inl, inr, refl, sym, ap, ◌∙◌, subst, arith, slice_get}
 use Rattle.std.proofs.Common.{codes}
 use Rattle.std.specs.Option.{option_map_or}

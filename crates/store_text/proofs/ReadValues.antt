@@ -1,5 +1,5 @@
 -- What the values that are read for a variable or a field say of it.
-use Rattle.std.proofs.Common.{◌≡◌, ℕ, suc, ◌+◌, ◌<◌, ◌==◌, Bool, true, false, cond, not, List, ◌∷◌, ◌++◌, length, map}
+use Rattle.std.proofs.Common.{◌≡◌, ℕ, suc, ◌+◌, ◌<◌, ◌==◌, Bool, true, false, cond, not, List, ◌∷◌, ◌++◌, length, map, []}
 use Rattle.std.proofs.Common.{Option, Some, None, Result, Ok, Err, IfSome, inl, inr, ◌⊎◌, ◌↔◌, refl, sym, ◌∙◌, subst, arith}
 use Rattle.std.proofs.Common.{position}
 use Rattle.std.specs.Option.{option_map, option_map_or}
