@@ -19,10 +19,10 @@ use Rattle.gta_theory.proofs.ListedLemmas.{slice_get-push}
 use Rattle.gta_core.specs.declared.factored.FactoredPart.{FactoredPart}
 use Rattle.gta_core.specs.Auto.{AutoView, states_of, initial_of, is_accepting, root_at, automaton_of, IsAuto, IsWhole}
 use Rattle.gta_core.specs.Factored.{factored_root}
-use Rattle.gta_refine.specs.declared.form.FormSpace.{FormSpace}
-use Rattle.gta_refine.specs.declared.form.Form.{Form}
-use Rattle.gta_refine.specs.Form as form
-use Rattle.gta_refine.proofs.ReachLemmas.{states-at, initial-at, step-at, initial-form, none-inside, accepting-form}
+use Rattle.gta_reach.specs.declared.form.FormSpace.{FormSpace}
+use Rattle.gta_reach.specs.declared.form.Form.{Form}
+use Rattle.gta_reach.specs.Form as form
+use Rattle.gta_reach.proofs.ReachLemmas.{states-at, initial-at, step-at, initial-form, none-inside, accepting-form}
 use Rattle.gta_form.specs.Listed.{IsSpaceOf, IsFormOf}
 
 -- a chain that gives something has each of its links

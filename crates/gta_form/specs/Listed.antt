@@ -4,9 +4,9 @@ use Rattle.labels.specs.Labels.{Label}
 use Rattle.bdd_nodes.specs.Shelf.{Contents}
 use Rattle.gta_theory.specs.Guides.{Spaces, IsSpace, left, right}
 use Rattle.gta_core.specs.Auto.{AutoView, states_of, initial_of, automaton_of}
-use Rattle.gta_refine.specs.declared.form.FormSpace.{FormSpace}
-use Rattle.gta_refine.specs.declared.form.Form.{Form}
-use Rattle.gta_refine.specs.Form as form
+use Rattle.gta_reach.specs.declared.form.FormSpace.{FormSpace}
+use Rattle.gta_reach.specs.declared.form.Form.{Form}
+use Rattle.gta_reach.specs.Form as form
 
 -- the part of a space, whose functions are those of the automaton
 pub record IsSpaceOf (g : Spaces) (shelf : Contents) (a : AutoView) (s : ℕ) (space : FormSpace) : Type 0 where

@@ -2,14 +2,14 @@
 
 ghost use Rattle.std.specs.Prelude.{◌≡◌, ◌<◌, ℕ, length, IfOk, Some, slice_get};
 ghost use Rattle.gta_core.specs.Auto.{states_of, is_accepting, IsAuto, IsWhole};
-ghost use Rattle.gta_refine.specs.Form.{IsForm};
+ghost use Rattle.gta_reach.specs.Form.{IsForm};
 ghost use Rattle.gta_form.specs.Listed.{IsSpaceOf, IsFormOf};
 
 use bdd_list::list_nodes;
 use bdd_nodes::Shelf;
 use bdd_walk::NoMemory;
 use gta_core::Auto;
-use gta_refine::{Form, FormSpace};
+use gta_reach::{Form, FormSpace};
 use plain_data::Items;
 use std::alloc::Global;
 use ws2s_core::Guide;

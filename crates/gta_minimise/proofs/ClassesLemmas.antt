@@ -11,9 +11,9 @@ use Rattle.gta_theory.specs.Minimal.{IsMinimal}
 use Rattle.gta_theory.specs.Numbered.{Below}
 use Rattle.gta_theory.proofs.AutomataLemmas.{IsClosed-reached, Accepts-named}
 use Rattle.gta_theory.proofs.MinimalLemmas.{IsMinimal-classes, IsStable-classes}
-use Rattle.gta_refine.specs.declared.form.Form.{Form}
+use Rattle.gta_reach.specs.declared.form.Form.{Form}
 use Rattle.gta_classes.specs.declared.part.SpaceClasses.{SpaceClasses}
-use Rattle.gta_refine.specs.Form as form
+use Rattle.gta_reach.specs.Form as form
 use Rattle.gta_refine.specs.Refined.{part_at, is_reached_in, class_at, representative_at, classes_in, quotient_of, IsRefined}
 use Rattle.gta_classes.proofs.ChosenLemmas.{marked-inside}
 use Rattle.gta_minimise.proofs.ReadLemmas.{step-quotient}

@@ -7,7 +7,7 @@ use Rattle.gta_theory.specs.Automata.{Automaton}
 use Rattle.gta_core.specs.Auto.{AutoView, automaton_of, IsAuto}
 use Rattle.gta_core.proofs.AutoLemmas.{automaton_of-kept, IsAuto-kept}
 use Rattle.gta_core.proofs.KeptLemmas.{KeepsTable-joins}
-use Rattle.gta_refine.specs.declared.form.Form.{Form}
+use Rattle.gta_reach.specs.declared.form.Form.{Form}
 use Rattle.gta_form.specs.Listed.{IsFormOf}
 
 module _ (old new : Contents) (is_shelf : IsShelf old) (keeps : Keeps old new) (tables : SameTables old new) (g : Spaces) (a : AutoView) where

@@ -12,13 +12,13 @@ use Rattle.bdd_list.proofs.ListingLemmas.{if_same, function_in-leaf, function_in
 use Rattle.gta_theory.specs.Guides.{IsSpace, left, right}
 use Rattle.gta_theory.specs.Numbered.{Below}
 use Rattle.gta_theory.specs.Sizes.{AreSameBelow, LooksBelow}
-use Rattle.gta_refine.specs.declared.form.FormSpace.{FormSpace}
-use Rattle.gta_refine.specs.declared.form.Form.{Form}
+use Rattle.gta_reach.specs.declared.form.FormSpace.{FormSpace}
+use Rattle.gta_reach.specs.declared.form.Form.{Form}
 use Rattle.gta_classes.specs.declared.part.SpaceClasses.{SpaceClasses}
-use Rattle.gta_refine.specs.Form.{cell_in, root_in, guide_of, states_of, IsForm}
+use Rattle.gta_reach.specs.Form.{cell_in, root_in, guide_of, states_of, IsForm}
 use Rattle.gta_refine.specs.Refined.{part_at, class_at, representative_at, classes_in, quotient_of, IsRefined}
 use Rattle.gta_classes.proofs.ChosenLemmas.{marked-inside}
-use Rattle.gta_refine.proofs.ReachLemmas.{step-at, many_spaces, none-inside}
+use Rattle.gta_reach.proofs.ReachLemmas.{step-at, many_spaces, none-inside}
 use Rattle.gta_minimise.proofs.ReadLemmas.{step-quotient}
 
 -- a number above all tracks of the nodes

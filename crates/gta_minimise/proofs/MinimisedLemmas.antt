@@ -24,9 +24,9 @@ use Rattle.gta_core.specs.Auto.{AutoView, states_of, automaton_of, IsAuto, IsWho
 use Rattle.gta_core.specs.Changes.{RegistersTable}
 use Rattle.gta_room.specs.Progress.{Adds, IsStuck}
 use Rattle.gta_room.proofs.ProgressLemmas.{room-new, limit-stuck}
-use Rattle.gta_refine.specs.declared.form.Form.{Form}
+use Rattle.gta_reach.specs.declared.form.Form.{Form}
 use Rattle.gta_classes.specs.declared.part.SpaceClasses.{SpaceClasses}
-use Rattle.gta_refine.specs.Form as form
+use Rattle.gta_reach.specs.Form as form
 use Rattle.gta_refine.specs.Refined.{part_at, classes_in, quotient_of, IsRefined}
 use Rattle.gta_form.specs.Listed.{IsFormOf}
 use Rattle.gta_minimise.specs.Quotient.{IsUnderClasses, AreQuotientSpaces}

@@ -18,11 +18,11 @@ use Rattle.gta_theory.proofs.ListedLemmas.{slice_get-front, slice_get-last, slic
 use Rattle.gta_core.specs.declared.part.Part.{Part}
 use Rattle.gta_core.specs.Auto.{AutoView, states_of, guide_of, place_in, place_of, root_at, automaton_of, IsUsed, IsAuto, IsWhole}
 use Rattle.gta_core.proofs.AutoLemmas.{step-some, past-none}
-use Rattle.gta_refine.specs.declared.form.Form.{Form}
+use Rattle.gta_reach.specs.declared.form.Form.{Form}
 use Rattle.gta_classes.specs.declared.part.SpaceClasses.{SpaceClasses}
-use Rattle.gta_refine.specs.Form as form
+use Rattle.gta_reach.specs.Form as form
 use Rattle.gta_refine.specs.Refined.{part_at, class_at, representative_at, classes_in, quotient_of, IsRefined}
-use Rattle.gta_refine.proofs.ReachLemmas.{none-inside, accepting-form}
+use Rattle.gta_reach.proofs.ReachLemmas.{none-inside, accepting-form}
 use Rattle.gta_minimise.specs.Quotient.{IsQuotientPart, IsQuotientSpace, IsPutBehind, IsUsedIn, AreQuotientSpaces}
 use Rattle.gta_minimise.proofs.ReadLemmas.{accepting-quotient}
 use Rattle.gta_minimise.proofs.ClassesLemmas.{IsQuotient, below-back, below-to, IsClosed-classes, IsStable-quotient}

@@ -17,13 +17,13 @@ use Rattle.gta_theory.proofs.ListedLemmas.{slice_get-front, slice_get-last, slic
 use Rattle.gta_core.specs.declared.part.Part.{Part}
 use Rattle.gta_core.specs.Auto.{AutoView, states_of, place_in, root_at}
 use Rattle.gta_core.proofs.AutoLemmas.{step-some}
-use Rattle.gta_refine.specs.declared.form.FormSpace.{FormSpace}
-use Rattle.gta_refine.specs.declared.form.Form.{Form}
+use Rattle.gta_reach.specs.declared.form.FormSpace.{FormSpace}
+use Rattle.gta_reach.specs.declared.form.Form.{Form}
 use Rattle.gta_classes.specs.declared.part.SpaceClasses.{SpaceClasses}
-use Rattle.gta_refine.specs.Form as form
+use Rattle.gta_reach.specs.Form as form
 use Rattle.gta_refine.specs.Refined.{part_at, class_at, representative_at, classes_in, quotient_of, IsRefined}
 use Rattle.gta_classes.proofs.ChosenLemmas.{marked-inside}
-use Rattle.gta_refine.proofs.ReachLemmas.{none-inside, many_spaces, initial-form, initial-at, left-at, right-at, step-at, step-same}
+use Rattle.gta_reach.proofs.ReachLemmas.{none-inside, many_spaces, initial-form, initial-at, left-at, right-at, step-at, step-same}
 use Rattle.gta_form.specs.Listed.{IsFormOf}
 use Rattle.gta_minimise.specs.Rows.{AreSharedRows}
 use Rattle.gta_minimise.specs.Renamed.{IsUnderRenamed, AreRenamed}

@@ -2,9 +2,9 @@
 use Rattle.std.proofs.Common.{◌≡◌, ℕ, List, refl}
 use Rattle.labels.specs.Labels.{Label}
 use Rattle.gta_theory.specs.Guides.{left, right}
-use Rattle.gta_refine.specs.declared.form.Form.{Form}
+use Rattle.gta_reach.specs.declared.form.Form.{Form}
 use Rattle.gta_classes.specs.declared.part.SpaceClasses.{SpaceClasses}
-use Rattle.gta_refine.specs.Form.{guide_of, automaton_of}
+use Rattle.gta_reach.specs.Form.{guide_of, automaton_of}
 use Rattle.gta_refine.specs.Refined.{class_at, representative_at, quotient_of}
 
 pub step-quotient : (form : Form) (spaces : List SpaceClasses) (s x y : ℕ) (label : Label) → (quotient_of form spaces).step s x y label

@@ -10,10 +10,10 @@ use Rattle.gta_room.specs.Progress.{IsUnderSomewhere}
 use Rattle.gta_core.specs.declared.part.Part.{Part}
 use Rattle.gta_core.specs.Auto.{AutoView, place_in, root_at}
 use Rattle.gta_core.specs.Placing.{HasPlace}
-use Rattle.gta_refine.specs.declared.form.FormSpace.{FormSpace}
-use Rattle.gta_refine.specs.declared.form.Form.{Form}
+use Rattle.gta_reach.specs.declared.form.FormSpace.{FormSpace}
+use Rattle.gta_reach.specs.declared.form.Form.{Form}
 use Rattle.gta_classes.specs.declared.part.SpaceClasses.{SpaceClasses}
-use Rattle.gta_refine.specs.Form.{guide_of, automaton_of}
+use Rattle.gta_reach.specs.Form.{guide_of, automaton_of}
 use Rattle.gta_refine.specs.Refined.{part_at, classes_in, class_at, quotient_of}
 use Rattle.gta_minimise.specs.Rows.{AreSharedRows}
 

@@ -5,8 +5,8 @@ ghost use Rattle.bdd_nodes.specs.Shelf.{IsValid};
 ghost use Rattle.gta_theory.specs.Guides.{IsSpace, left, right};
 ghost use Rattle.gta_core.specs.Auto.{states_of, guide_of, IsAuto};
 ghost use Rattle.gta_room.specs.Progress.{Adds, IsStuck};
-ghost use Rattle.gta_refine.specs.Form as forms;
-ghost use Rattle.gta_refine.specs.Form.{IsForm};
+ghost use Rattle.gta_reach.specs.Form as forms;
+ghost use Rattle.gta_reach.specs.Form.{IsForm};
 ghost use Rattle.gta_refine.specs.Refined.{IsRefined};
 ghost use Rattle.gta_form.specs.Listed.{IsFormOf};
 ghost use Rattle.gta_minimise.specs.Quotient.{ArePairs, IsUnderClasses, IsQuotientSpace};
@@ -16,7 +16,8 @@ use crate::rows::{classes_of, shared_part};
 use bdd_nodes::{RefList, Shelf};
 use bdd_walk::{NoMemory, Stop};
 use gta_core::{Auto, Part};
-use gta_refine::{Form, SpaceClasses};
+use gta_reach::Form;
+use gta_refine::SpaceClasses;
 use std::alloc::{AllocError, Global};
 
 /// The root of each pair of states: in order of the left list, and for each of its states in order of the right one.

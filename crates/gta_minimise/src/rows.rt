@@ -3,13 +3,14 @@
 ghost use Rattle.std.specs.Prelude.{◌≡◌, ◌<◌, ◌≤◌, ◌^◌, ℕ, length, slice_index, IfOk};
 ghost use Rattle.std.specs.List.{range_with_len};
 ghost use Rattle.gta_theory.specs.Guides.{IsSpace};
-ghost use Rattle.gta_refine.specs.Form.{guide_of, IsForm};
+ghost use Rattle.gta_reach.specs.Form.{guide_of, IsForm};
 ghost use Rattle.gta_refine.specs.Refined.{part_at, IsRefined};
 ghost use Rattle.gta_minimise.specs.Rows.{IsRowStep, AreSharedRows};
 ghost use Rattle.gta_minimise.specs.Quotient.{IsSharedPart};
 
 use gta_core::Part;
-use gta_refine::{Form, NumberList, SpaceClasses};
+use gta_reach::Form;
+use gta_refine::{NumberList, SpaceClasses};
 use plain_data::Items;
 use std::alloc::{AllocError, Global};
 use std::collections::HashMap;

@@ -1,5 +1,5 @@
 -- What gives some states is found from the leaves up.
-use Rattle.std.proofs.Common.{◌≡◌, ℕ, zero, suc, ◌+◌, ◌<◌, ◌≤◌, Bool, true, false, List, [], ◌∷◌, ◌++◌, length, map, ◌⊎◌, inl, inr, if◌then◌else◌}
+use Rattle.std.proofs.Common.{◌≡◌, ℕ, zero, suc, ◌+◌, ◌<◌, ◌≤◌, Bool, true, false, List, ◌∷◌, ◌++◌, length, map, ◌⊎◌, inl, inr, if◌then◌else◌, []}
 use Rattle.std.proofs.Common.{sym, ◌∙◌, ap, refl, subst, arith, length-append, append-nil, append_assoc}
 use Rattle.std.specs.Prelude.{Contains, slice_index, slice_index_or, slice_set}
 use Rattle.std.proofs.lemmas.List.{get_or_default, get_or_append_left}
@@ -7,52 +7,31 @@ use Rattle.std.proofs.lemmas.List.Elements.{Contains-push, Contains-push_cases, 
 use Rattle.std.proofs.lemmas.List.Elements.{Contains-get_or}
 use Rattle.std.proofs.lemmas.Bool.{cases_eq, false≢true}
 use Rattle.labels.specs.Labels.{Label, with_track}
-use Rattle.labels.proofs.LabelsLemmas.{with_track-same, with_track-later}
 use Rattle.bdd_list.specs.declared.listing.Listed.{Listed}
 use Rattle.bdd_list.specs.declared.listing.Listed.TheVariants.{Leaf, Inner}
 use Rattle.bdd_list.specs.declared.listing.ListedNode.{ListedNode}
 use Rattle.bdd_list.specs.Listing.{rank, function_in, node_at, IsIn, AreOrdered}
-use Rattle.bdd_list.proofs.ListingLemmas.{function_in-leaf, function_in-inner, function_in-unasked}
+use Rattle.bdd_list.proofs.ListingLemmas.{function_in-leaf, function_in-inner}
 use Rattle.gta_classes.specs.Chosen.{is_marked}
 use Rattle.gta_refine.specs.Uses.{above_of, HasPlace, AreAbove, HasSide}
 use Rattle.gta_classes.specs.Marks.{IsClear}
 use Rattle.gta_refine.specs.Givers.{GivesSome, AreClimbed, AddsNodes}
+use Rattle.gta_reach.proofs.NodeLemmas.{gives-low, gives-high}
 use Rattle.gta_classes.proofs.ChosenLemmas.{marked-set_cases}
 use Rattle.gta_classes.proofs.ListsLemmas.{FromMap-map, Contains-map, Contains-none}
 
 -- a node gives what its sides give
 module _ (nodes : List ListedNode) (ordered : AreOrdered nodes) (i : ℕ) (inside : i < length nodes) where
-  pub gives-low : (label : Label) →
-      function_in nodes (Inner i) (with_track label (node_at nodes i).track false) ≡ function_in nodes (node_at nodes i).low label
-  gives-low label =
-      let n = node_at nodes i in
-      let there = with_track label n.track false in
-      function_in-inner nodes i there inside (ordered.low i inside).before (ordered.high i inside).before
-      ∙ ap (λ (b : Bool). if b then function_in nodes n.high there else function_in nodes n.low there) (with_track-same label n.track false)
-      ∙ function_in-unasked nodes ordered n.low (suc n.track) there label (let b = (ordered.low i inside).before in omega arith) (ordered.low i inside).later
-      (λ u above. with_track-later label n.track u false above)
-
-  pub gives-high : (label : Label) →
-      function_in nodes (Inner i) (with_track label (node_at nodes i).track true) ≡ function_in nodes (node_at nodes i).high label
-  gives-high label =
-      let n = node_at nodes i in
-      let there = with_track label n.track true in
-      function_in-inner nodes i there inside (ordered.low i inside).before (ordered.high i inside).before
-      ∙ ap (λ (b : Bool). if b then function_in nodes n.high there else function_in nodes n.low there) (with_track-same label n.track true)
-      ∙ function_in-unasked nodes ordered n.high (suc n.track) there label (let b = (ordered.high i inside).before in omega arith)
-      (ordered.high i inside).later
-      (λ u above. with_track-later label n.track u true above)
-
   GivesSome-side : (states : List ℕ) (listed : Listed) → ((node_at nodes i).low ≡ listed) ⊎ ((node_at nodes i).high ≡ listed) →
       GivesSome nodes states listed → GivesSome nodes states (Inner i)
   GivesSome-side states listed side gives = elim side [
     | inl low ↦ record {
       label = with_track gives.label (node_at nodes i).track false;
-      gives = subst (Contains states) (sym (gives-low gives.label ∙ ap (λ (l : Listed). function_in nodes l gives.label) low)) gives.gives;
+      gives = subst (Contains states) (sym (gives-low nodes ordered i inside gives.label ∙ ap (λ (l : Listed). function_in nodes l gives.label) low)) gives.gives;
     }
     | inr high ↦ record {
       label = with_track gives.label (node_at nodes i).track true;
-      gives = subst (Contains states) (sym (gives-high gives.label ∙ ap (λ (l : Listed). function_in nodes l gives.label) high)) gives.gives;
+      gives = subst (Contains states) (sym (gives-high nodes ordered i inside gives.label ∙ ap (λ (l : Listed). function_in nodes l gives.label) high)) gives.gives;
     }
   ]
 

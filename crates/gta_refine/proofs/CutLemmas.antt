@@ -8,16 +8,17 @@ use Rattle.std.proofs.lemmas.Bool.{cases_eq}
 use Rattle.gta_theory.proofs.ListedLemmas.{slice_get-push}
 use Rattle.gta_theory.specs.Guides.{IsSpace}
 use Rattle.gta_theory.specs.Minimal.{AreSeparated}
-use Rattle.gta_refine.specs.declared.form.FormSpace.{FormSpace}
-use Rattle.gta_refine.specs.declared.form.Form.{Form}
+use Rattle.gta_reach.specs.declared.form.FormSpace.{FormSpace}
+use Rattle.gta_reach.specs.declared.form.Form.{Form}
 use Rattle.gta_classes.specs.declared.part.SpaceClasses.{SpaceClasses}
-use Rattle.gta_refine.specs.declared.rows.Side.{Side}
-use Rattle.gta_refine.specs.Form.{guide_of, automaton_of, IsForm}
+use Rattle.gta_reach.specs.declared.sides.Side.{Side}
+use Rattle.gta_reach.specs.Form.{guide_of, automaton_of, IsForm}
 use Rattle.gta_classes.specs.Classes.{AreClasses}
 use Rattle.gta_classes.specs.Cuts.{IsIndicator, Covers, IsCut}
 use Rattle.gta_refine.specs.Cuts.{IsCutAt, ClassLists, AllCover}
 use Rattle.gta_refine.specs.Givers.{AreGivers}
-use Rattle.gta_refine.specs.Refined.{part_at, is_reached_in, ArePartition, GiveOthersAt, child_at, child_of, room_in}
+use Rattle.gta_refine.specs.Refined.{part_at, is_reached_in, ArePartition, GiveOthersAt, room_in}
+use Rattle.gta_reach.specs.Sides.{child_at, child_of}
 use Rattle.gta_refine.proofs.RoomLemmas.{room-set, room_of}
 use Rattle.gta_refine.proofs.RefineLemmas.{ArePartition-split, after-part, separated-child, there-is, child-is, child-inside}
 

@@ -7,20 +7,22 @@ use Rattle.std.proofs.lemmas.Bool.{cases_eq}
 use Rattle.labels.specs.Labels.{Label}
 use Rattle.bdd_nodes.specs.declared.node_ref.NodeRef.{NodeRef}
 use Rattle.bdd_list.specs.Listing.{function_of}
-use Rattle.gta_refine.specs.declared.form.FormSpace.{FormSpace}
-use Rattle.gta_refine.specs.declared.form.Form.{Form}
+use Rattle.gta_reach.specs.declared.form.FormSpace.{FormSpace}
+use Rattle.gta_reach.specs.declared.form.Form.{Form}
 use Rattle.gta_classes.specs.declared.part.SpaceClasses.{SpaceClasses}
-use Rattle.gta_refine.specs.declared.rows.Side.{Side}
-use Rattle.gta_refine.specs.declared.rows.Side.TheVariants.{Left, Right}
-use Rattle.gta_refine.specs.Form.{root_in, guide_of, automaton_of}
+use Rattle.gta_reach.specs.declared.sides.Side.{Side}
+use Rattle.gta_reach.specs.declared.sides.Side.TheVariants.{Left, Right}
+use Rattle.gta_reach.specs.Form.{root_in, guide_of, automaton_of}
 use Rattle.gta_classes.specs.Chosen.{IsAmong, AreChosen}
 use Rattle.gta_refine.specs.Numbered.{number_at, class_given, TellApart}
-use Rattle.gta_refine.specs.Rows.{kinds_in, cell_at, row_of, id_of, AreIds}
-use Rattle.gta_refine.specs.Refined.{part_at, is_reached_in, class_at, child_at}
-use Rattle.gta_refine.specs.Refined.{opposite, step_by}
+use Rattle.gta_refine.specs.Rows.{row_of, id_of, AreIds}
+use Rattle.gta_reach.specs.Sides.{kinds_in, cell_at}
+use Rattle.gta_refine.specs.Refined.{part_at, is_reached_in, class_at}
+use Rattle.gta_reach.specs.Sides.{child_at}
+use Rattle.gta_reach.specs.Sides.{opposite, step_by}
 use Rattle.gta_refine.specs.Refined.{AreChildIds}
 use Rattle.gta_classes.proofs.ChosenLemmas.{marked-inside}
-use Rattle.gta_refine.proofs.ReachLemmas.{step-at, cell-same}
+use Rattle.gta_reach.proofs.ReachLemmas.{step-at, cell-same}
 use Rattle.gta_refine.proofs.RowsLemmas.{row_of-same}
 
 -- a place where two lists of numbers differ

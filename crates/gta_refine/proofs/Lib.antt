@@ -1,5 +1,3 @@
-pub mod SweepLemmas
-pub mod ReachLemmas
 pub mod NumbersLemmas
 pub mod RowsLemmas
 pub mod IdsLemmas
@@ -10,4 +8,3 @@ pub mod UsesLemmas
 pub mod CutLemmas
 pub mod GiversLemmas
 pub mod ScratchLemmas
-pub mod ExploreLemmas

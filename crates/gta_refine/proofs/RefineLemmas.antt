@@ -16,21 +16,23 @@ use Rattle.gta_theory.specs.Minimal.{AreSeparated, at_root, below_left, below_ri
 use Rattle.gta_theory.specs.Numbered.{Below}
 use Rattle.gta_theory.proofs.AutomataLemmas.{IsClosed-reached, Accepts-named}
 use Rattle.gta_theory.proofs.MinimalLemmas.{IsMinimal-classes}
-use Rattle.gta_refine.specs.declared.form.FormSpace.{FormSpace}
-use Rattle.gta_refine.specs.declared.form.Form.{Form}
+use Rattle.gta_reach.specs.declared.form.FormSpace.{FormSpace}
+use Rattle.gta_reach.specs.declared.form.Form.{Form}
 use Rattle.gta_classes.specs.declared.part.SpaceClasses.{SpaceClasses}
-use Rattle.gta_refine.specs.declared.rows.Side.{Side}
-use Rattle.gta_refine.specs.declared.rows.Side.TheVariants.{Left, Right}
-use Rattle.gta_refine.specs.Form.{cell_in, guide_of, states_of, initial_of, automaton_of, IsForm}
+use Rattle.gta_reach.specs.declared.sides.Side.{Side}
+use Rattle.gta_reach.specs.declared.sides.Side.TheVariants.{Left, Right}
+use Rattle.gta_reach.specs.Form.{cell_in, guide_of, states_of, initial_of, automaton_of, IsForm}
 use Rattle.gta_classes.specs.Chosen.{is_marked, AreChosen}
-use Rattle.gta_refine.specs.Reached.{is_reached, AreReached, HasRoot}
-use Rattle.gta_refine.specs.Rows.{kinds_in, cell_at, HasRootAt}
+use Rattle.gta_reach.specs.Reached.{is_reached, AreReached, HasRoot}
+use Rattle.gta_reach.specs.Sides.{kinds_in, cell_at, HasRootAt}
 use Rattle.gta_classes.specs.Classes.{AreClasses, IsSplit}
-use Rattle.gta_refine.specs.Refined.{part_at, is_reached_in, class_at, representative_at, classes_in, quotient_of, ArePartition, child_at, child_of}
-use Rattle.gta_refine.specs.Refined.{opposite, bit_of}
+use Rattle.gta_refine.specs.Refined.{part_at, is_reached_in, class_at, representative_at, classes_in, quotient_of, ArePartition}
+use Rattle.gta_reach.specs.Sides.{child_at, child_of}
+use Rattle.gta_refine.specs.Refined.{bit_of}
+use Rattle.gta_reach.specs.Sides.{opposite}
 use Rattle.gta_refine.specs.Refined.{IsStableAt, GiveOthersAt, AreChildIds, AreSingle, IsRefined}
 use Rattle.gta_classes.proofs.ChosenLemmas.{marked-inside}
-use Rattle.gta_refine.proofs.ReachLemmas.{many_spaces, initial-form, left-at, right-at, few-states, accepting-form}
+use Rattle.gta_reach.proofs.ReachLemmas.{many_spaces, initial-form, left-at, right-at, few-states, accepting-form}
 
 -- the classes of one space are split
 module _ (form : Form) (spaces : List SpaceClasses) (c : ℕ) (c_inside : c < length spaces) (new_classes new_representatives : List ℕ) where

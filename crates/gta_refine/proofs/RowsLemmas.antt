@@ -8,14 +8,15 @@ use Rattle.std.proofs.lemmas.List.{get_or-set_same, get_or-set_other, length-set
 use Rattle.std.proofs.lemmas.Bool.{cases_Bool, cases_lt, cases_eq, eqb-true, false≢true}
 use Rattle.std.proofs.lemmas.Option.{slice_get_within}
 use Rattle.bdd_nodes.specs.declared.node_ref.NodeRef.{NodeRef}
-use Rattle.gta_refine.specs.declared.form.FormSpace.{FormSpace}
-use Rattle.gta_refine.specs.declared.rows.Side.{Side}
-use Rattle.gta_refine.specs.declared.rows.Side.TheVariants.{Left, Right}
+use Rattle.gta_reach.specs.declared.form.FormSpace.{FormSpace}
+use Rattle.gta_reach.specs.declared.sides.Side.{Side}
+use Rattle.gta_reach.specs.declared.sides.Side.TheVariants.{Left, Right}
 use Rattle.gta_classes.specs.Chosen.{IsAmong}
 use Rattle.gta_refine.specs.Numbered.{number_at}
 use Rattle.gta_refine.specs.Firsts.{Row, Firsts, same_ref, first_of, AreFirsts, KeepsFirsts}
-use Rattle.gta_refine.specs.Rows.{kinds_in, cell_at, row_of, id_of, AreIds}
-use Rattle.gta_refine.proofs.ReachLemmas.{cell-same}
+use Rattle.gta_refine.specs.Rows.{row_of, id_of, AreIds}
+use Rattle.gta_reach.specs.Sides.{kinds_in, cell_at}
+use Rattle.gta_reach.proofs.ReachLemmas.{cell-same}
 
 same_word : (a b : NodeRef) → same_ref a b ≡ true → a ≡ b
 same_word a b e = ap (λ (w : ℕ). let r : NodeRef = record { word = w } in r) (eqb-true a.word b.word e)

@@ -8,22 +8,23 @@ use Rattle.std.proofs.lemmas.Bool.{cases_eq, false≢true}
 use Rattle.bdd_list.specs.declared.listing.Listed.{Listed}
 use Rattle.bdd_list.specs.declared.listing.Listed.TheVariants.{Leaf, Inner}
 use Rattle.gta_theory.proofs.ListedLemmas.{slice_get-push}
-use Rattle.gta_refine.specs.declared.form.FormSpace.{FormSpace}
-use Rattle.gta_refine.specs.declared.form.Form.{Form}
+use Rattle.gta_reach.specs.declared.form.FormSpace.{FormSpace}
+use Rattle.gta_reach.specs.declared.form.Form.{Form}
 use Rattle.gta_classes.specs.declared.part.SpaceClasses.{SpaceClasses}
-use Rattle.gta_refine.specs.declared.rows.Side.{Side}
-use Rattle.gta_refine.specs.declared.rows.Side.TheVariants.{Left, Right}
+use Rattle.gta_reach.specs.declared.sides.Side.{Side}
+use Rattle.gta_reach.specs.declared.sides.Side.TheVariants.{Left, Right}
 use Rattle.gta_refine.specs.declared.uses.SideUses.{SideUses}
 use Rattle.gta_refine.specs.declared.uses.SpaceUses.{SpaceUses}
-use Rattle.gta_refine.specs.Form.{guide_of, IsForm}
+use Rattle.gta_reach.specs.Form.{guide_of, IsForm}
 use Rattle.gta_classes.specs.Chosen.{is_marked, AreChosen}
-use Rattle.gta_refine.specs.Rows.{kinds_in, cell_at}
+use Rattle.gta_reach.specs.Sides.{kinds_in, cell_at}
 use Rattle.gta_classes.specs.Lists.{Leads, IsAdded}
 use Rattle.gta_refine.specs.Uses.{above_of, HasPlace, IsAddedAbove, AreAbove, HasBeside, AddsOwner, AreOwners, AreLikes, IsOwn}
 use Rattle.gta_refine.specs.Uses.{AreSideUses, IsUses}
-use Rattle.gta_refine.specs.Refined.{part_at, is_reached_in, child_at, opposite, ArePartition}
+use Rattle.gta_refine.specs.Refined.{part_at, is_reached_in, ArePartition}
+use Rattle.gta_reach.specs.Sides.{child_at, opposite}
 use Rattle.gta_classes.proofs.ChosenLemmas.{marked-inside}
-use Rattle.gta_refine.proofs.ReachLemmas.{cell-same}
+use Rattle.gta_reach.proofs.ReachLemmas.{cell-same}
 use Rattle.gta_refine.proofs.RowsLemmas.{cell_at-same}
 use Rattle.gta_refine.proofs.RefineLemmas.{child-space}
 use Rattle.gta_classes.proofs.ListsLemmas.{IsAmong-contains, Contains-among}

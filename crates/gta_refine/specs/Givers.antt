@@ -5,12 +5,13 @@ use Rattle.bdd_list.specs.declared.listing.Listed.{Listed}
 use Rattle.bdd_list.specs.declared.listing.Listed.TheVariants.{Inner}
 use Rattle.bdd_list.specs.declared.listing.ListedNode.{ListedNode}
 use Rattle.bdd_list.specs.Listing.{function_in, IsIn}
-use Rattle.gta_refine.specs.declared.form.Form.{Form}
+use Rattle.gta_reach.specs.declared.form.Form.{Form}
 use Rattle.gta_classes.specs.declared.part.SpaceClasses.{SpaceClasses}
-use Rattle.gta_refine.specs.declared.rows.Side.{Side}
-use Rattle.gta_refine.specs.Form.{guide_of, automaton_of}
+use Rattle.gta_reach.specs.declared.sides.Side.{Side}
+use Rattle.gta_reach.specs.Form.{guide_of, automaton_of}
 use Rattle.gta_classes.specs.Chosen.{is_marked}
-use Rattle.gta_refine.specs.Refined.{is_reached_in, class_at, child_at, opposite, step_by}
+use Rattle.gta_refine.specs.Refined.{is_reached_in, class_at}
+use Rattle.gta_reach.specs.Sides.{child_at, opposite, step_by}
 
 -- what is listed gives one of the states for some label
 pub record GivesSome (nodes : List ListedNode) (states : List ℕ) (listed : Listed) : Type 0 where

@@ -1,5 +1,3 @@
-pub mod Form
-pub mod Reached
 pub mod Numbered
 pub mod Rows
 pub mod Firsts
@@ -8,4 +6,3 @@ pub mod Uses
 pub mod Givers
 pub mod Cuts
 pub mod Scratch
-pub mod Exploring

@@ -1,19 +1,17 @@
 -- The classes of the reached states of each space, and the automaton of classes. (The theorem of Myhill and Nerode for
 -- trees; refinement: Hopcroft 1971.)
-use Rattle.std.specs.Prelude.{◌≡◌, ◌≢◌, ℕ, ◌+◌, ◌-◌, ◌^◌, ◌<◌, ◌≤◌, ◌∷◌, Bool, true, false, List, [], length, slice_index, slice_index_or, ◌↔◌}
+use Rattle.std.specs.Prelude.{◌≡◌, ◌≢◌, ℕ, ◌+◌, ◌-◌, ◌^◌, ◌<◌, ◌≤◌, ◌∷◌, Bool, true, false, List, length, slice_index, slice_index_or, ◌↔◌, []}
 use Rattle.labels.specs.Labels.{Label}
 use Rattle.gta_theory.specs.Assignments.{Assignment}
-use Rattle.gta_theory.specs.Guides.{Spaces, IsSpace, left, right}
+use Rattle.gta_theory.specs.Guides.{IsSpace, left, right}
 use Rattle.gta_theory.specs.Automata.{Automaton, Accepts, Has}
 use Rattle.gta_theory.specs.Constructions.{IsReached, IsNaming}
 use Rattle.gta_theory.specs.Minimal.{AreSeparated, IsMinimal}
 use Rattle.gta_theory.specs.Numbered.{Below}
-use Rattle.gta_refine.specs.declared.form.Form.{Form}
-use Rattle.gta_refine.specs.declared.form.FormSpace.{FormSpace}
+use Rattle.gta_reach.specs.declared.form.Form.{Form}
 use Rattle.gta_classes.specs.declared.part.SpaceClasses.{SpaceClasses}
-use Rattle.gta_refine.specs.declared.rows.Side.{Side}
-use Rattle.gta_refine.specs.declared.rows.Side.TheVariants.{Left, Right}
-use Rattle.gta_refine.specs.Form.{guide_of, states_of, automaton_of}
+use Rattle.gta_reach.specs.declared.sides.Side.{Side}
+use Rattle.gta_reach.specs.Form.{guide_of, states_of, automaton_of}
 use Rattle.gta_classes.specs.Chosen.{is_marked}
 use Rattle.gta_classes.specs.Classes.{AreClasses}
 
@@ -73,26 +71,6 @@ pub record ArePartition (form : Form) (spaces : List SpaceClasses) : Type 0 wher
 abbrev pub bit_of : Bool → ℕ
 bit_of true = 1
 bit_of false = 0
-
--- the space of a child, as the form has it
-abbrev pub child_of : FormSpace → Side → ℕ
-child_of space Left = space.children.0
-child_of space Right = space.children.1
-
--- the space of a child
-abbrev pub child_at : Spaces → Side → ℕ → ℕ
-child_at g Left s = left g s
-child_at g Right s = right g s
-
--- the other child
-abbrev pub opposite : Side → Side
-opposite Left = Right
-opposite Right = Left
-
--- a step from a state of a child and one of the other child
-abbrev pub step_by : Automaton ℕ → ℕ → Side → ℕ → ℕ → Label → ℕ
-step_by A s Left own beside label = A.step s own beside label
-step_by A s Right own beside label = A.step s beside own label
 
 -- steps from states of one class of a child give states of one class
 pub record IsStableAt (form : Form) (spaces : List SpaceClasses) (s : ℕ) (side : Side) : Type 0 where

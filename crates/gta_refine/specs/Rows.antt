@@ -1,28 +1,10 @@
 -- Rows and columns of numbers: what a child state has over the states beside it.
 use Rattle.std.specs.Prelude.{◌≡◌, ℕ, List, map, slice_index}
 use Rattle.bdd_nodes.specs.declared.node_ref.NodeRef.{NodeRef}
-use Rattle.gta_refine.specs.declared.form.FormSpace.{FormSpace}
-use Rattle.gta_refine.specs.declared.rows.Side.{Side}
-use Rattle.gta_refine.specs.declared.rows.Side.TheVariants.{Left, Right}
-use Rattle.gta_refine.specs.Form.{cell_in}
+use Rattle.gta_reach.specs.declared.form.FormSpace.{FormSpace}
+use Rattle.gta_reach.specs.declared.sides.Side.{Side}
 use Rattle.gta_classes.specs.Chosen.{IsAmong}
-use Rattle.gta_refine.specs.Reached.{HasRoot}
 use Rattle.gta_refine.specs.Numbered.{number_at}
-
--- the classes of the states of a child
-abbrev pub kinds_in : FormSpace → Side → List ℕ
-kinds_in space Left = space.rows
-kinds_in space Right = space.columns
-
--- which root a state of a child has with one of the other child
-abbrev pub cell_at : FormSpace → Side → ℕ → ℕ → ℕ
-cell_at space Left own beside = cell_in space own beside
-cell_at space Right own beside = cell_in space beside own
-
--- the two have a root
-abbrev pub HasRootAt : FormSpace → Side → ℕ → ℕ → Type 0
-HasRootAt space Left own beside = HasRoot space own beside
-HasRootAt space Right own beside = HasRoot space beside own
 
 -- the numbers of the roots of a state with those beside it
 abbrev pub row_of : FormSpace → Side → List NodeRef → List ℕ → ℕ → List NodeRef

@@ -5,16 +5,16 @@ use Rattle.bdd_list.specs.declared.listing.Listed.TheVariants.{Leaf, Inner}
 use Rattle.bdd_list.specs.declared.listing.ListedNode.{ListedNode}
 use Rattle.bdd_list.specs.Listing.{node_at}
 use Rattle.gta_theory.specs.Automata.{IsValue}
-use Rattle.gta_refine.specs.declared.form.FormSpace.{FormSpace}
-use Rattle.gta_refine.specs.declared.form.Form.{Form}
-use Rattle.gta_refine.specs.declared.rows.Side.{Side}
-use Rattle.gta_refine.specs.declared.rows.Side.TheVariants.{Left, Right}
+use Rattle.gta_reach.specs.declared.form.FormSpace.{FormSpace}
+use Rattle.gta_reach.specs.declared.form.Form.{Form}
+use Rattle.gta_reach.specs.declared.sides.Side.{Side}
+use Rattle.gta_reach.specs.declared.sides.Side.TheVariants.{Left, Right}
 use Rattle.gta_refine.specs.declared.uses.SideUses.{SideUses}
 use Rattle.gta_refine.specs.declared.uses.SpaceUses.{SpaceUses}
-use Rattle.gta_refine.specs.Form.{guide_of, states_of, automaton_of}
+use Rattle.gta_reach.specs.Form.{guide_of, states_of, automaton_of}
 use Rattle.gta_classes.specs.Chosen.{is_marked}
-use Rattle.gta_refine.specs.Rows.{kinds_in, cell_at}
-use Rattle.gta_refine.specs.Refined.{child_at, opposite}
+use Rattle.gta_reach.specs.Sides.{kinds_in, cell_at}
+use Rattle.gta_reach.specs.Sides.{child_at, opposite}
 use Rattle.gta_classes.specs.Lists.{list_at, Leads}
 
 -- the numbers of what has what is listed, by lists for the leaves and for the nodes

@@ -2,7 +2,7 @@
 //! states. (Hopcroft 1971: the smaller part has the new class, and the new class alone cuts others.)
 
 ghost use Rattle.std.specs.Prelude.{◌≡◌, ◌<◌, ◌≤◌, ℕ, Contains, Some, true, length, slice_get, IfOk, IfSome};
-ghost use Rattle.gta_refine.specs.Form.{IsForm};
+ghost use Rattle.gta_reach.specs.Form.{IsForm};
 ghost use Rattle.gta_classes.specs.Classes.{AreClasses};
 ghost use Rattle.gta_refine.specs.Refined.{part_at, is_reached_in, ArePartition, room_in};
 ghost use Rattle.gta_classes.specs.Cuts.{Covers};
@@ -10,13 +10,11 @@ ghost use Rattle.gta_refine.specs.Cuts.{IsCutAt, AllCover};
 ghost use Rattle.gta_refine.specs.Scratch.{IsReady};
 ghost use Rattle.gta_refine.specs.Uses.{AreUses};
 
-use crate::form::Form;
 use crate::givers::givers;
-use crate::rounds::child;
-use crate::rows::Side;
 use crate::scratch::{Scratch, scratch_of};
 use crate::uses::{SpaceUses, likes_of};
 use gta_classes::{NumberList, SpaceClasses, cut};
+use gta_reach::{Form, Side, child};
 use std::alloc::{AllocError, Global};
 
 /// Who uses what in a space.

@@ -3,24 +3,23 @@
 ghost use Rattle.std.specs.Prelude.{◌≡◌, ◌<◌, ℕ, Contains, Some, true, length, map, slice_get, flat_map, IfOk};
 ghost use Rattle.bdd_list.specs.declared.listing.Listed.TheVariants.{Inner, Leaf};
 ghost use Rattle.bdd_list.specs.Listing.{AreOrdered};
-ghost use Rattle.gta_refine.specs.declared.form.FormSpace.{FormSpace};
+ghost use Rattle.gta_reach.specs.declared.form.FormSpace.{FormSpace};
 ghost use Rattle.gta_classes.specs.Chosen as marks_of;
-ghost use Rattle.gta_refine.specs.Form.{IsForm};
+ghost use Rattle.gta_reach.specs.Form.{IsForm};
 ghost use Rattle.gta_refine.specs.Refined.{part_at, ArePartition};
 ghost use Rattle.gta_refine.specs.Uses.{above_of, AreAbove, HasSide, IsUses};
 ghost use Rattle.gta_classes.specs.Cuts.{Covers};
 ghost use Rattle.gta_classes.specs.Marks.{IsClear};
 ghost use Rattle.gta_refine.specs.Givers.{AddsNodes, AreClimbed, AreMembers, AreGivers};
 
-use crate::form::Form;
 use crate::rounds::{part_of, spread};
-use crate::rows::{Side, kinds_of};
 use crate::scratch::Scratch;
 use crate::uses::{Above, SpaceUses};
 use bdd_list::{Listed, ListedNode};
 use gta_classes::{
     NumberList, SpaceClasses, add_members, distinct, gather, is_marked, mark, numbers_at, unmark,
 };
+use gta_reach::{Form, Side, kinds_of};
 use std::alloc::{AllocError, Global};
 
 /// The reached states of a class.

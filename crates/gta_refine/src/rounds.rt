@@ -1,21 +1,21 @@
 //! Refinement: classes are split until steps give states of one class from states of one class.
 
 ghost use Rattle.std.specs.Prelude.{◌≡◌, ◌<◌, ◌≤◌, ◌^◌, ℕ, true, false, length, map, slice_index, IfOk};
-ghost use Rattle.gta_refine.specs.Form.{IsForm};
+ghost use Rattle.gta_reach.specs.Form.{IsForm};
 ghost use Rattle.gta_classes.specs.Chosen.{is_marked, AreChosen};
-ghost use Rattle.gta_refine.specs.Rows.{kinds_in};
+ghost use Rattle.gta_reach.specs.Sides.{kinds_in};
 ghost use Rattle.gta_classes.specs.Classes.{AreClasses, IsSplit};
-ghost use Rattle.gta_refine.specs.Refined.{part_at, opposite, child_of, bit_of, room_in, TakesRoom};
+ghost use Rattle.gta_refine.specs.Refined.{part_at, bit_of, room_in, TakesRoom};
+ghost use Rattle.gta_reach.specs.Sides.{opposite, child_of};
 ghost use Rattle.gta_refine.specs.Refined.{AreSingle, ArePartition, AreChildIds, IsStableAt, IsRefined};
-ghost use Rattle.gta_refine.specs.declared.rows.Side.TheVariants.{Left, Right};
+ghost use Rattle.gta_reach.specs.declared.sides.Side.TheVariants.{Left, Right};
 
 use crate::cascade::cascade;
-use crate::form::{Form, FormSpace};
 use crate::numbers::number_roots;
-use crate::reach::reach;
-use crate::rows::{Side, kinds_of, number_rows};
+use crate::rows::number_rows;
 use crate::uses::uses_of;
 use gta_classes::{SpaceClasses, SpaceClassesList, choose, split};
+use gta_reach::{Form, FormSpace, Side, kinds_of, reach};
 use plain_data::Items;
 use std::alloc::{AllocError, Global};
 
@@ -105,17 +105,6 @@ fn classes_at_first(alloc: Global, form: &Form) -> Result<Vec<SpaceClasses>, All
     let bits = bits(alloc, form.accepting.as_slice())?;
     split_part(alloc, &bits, &mut spaces[0])?;
     Ok(spaces)
-}
-
-/// The space of a child.
-#[inline]
-pub(crate) fn child(space: &FormSpace, side: Side) -> u32
-    ensures { result ≡ child_of space.now side }
-{
-    match side {
-        Side::Left => space.children.0,
-        Side::Right => space.children.1,
-    }
 }
 
 /// The part of a space.

@@ -1,62 +1,18 @@
 //! Which child states have equal rows.
 
-ghost use Rattle.std.specs.Prelude.{◌≡◌, ◌<◌, ℕ, List, Some, length, slice_index, slice_set, IfOk};
+ghost use Rattle.std.specs.Prelude.{◌≡◌, ◌<◌, ℕ, List, Some, length, slice_set, IfOk};
 ghost use Rattle.bdd_nodes.specs.declared.node_ref.NodeRef.{NodeRef};
-ghost use Rattle.gta_refine.specs.Form.{root_in};
 ghost use Rattle.gta_classes.specs.Chosen.{IsAmong};
-ghost use Rattle.gta_refine.specs.Rows.{kinds_in, cell_at, HasRootAt, row_of, AreIds};
+ghost use Rattle.gta_reach.specs.Sides.{kinds_in, cell_at, HasRootAt};
+ghost use Rattle.gta_refine.specs.Rows.{row_of, AreIds};
 ghost use Rattle.gta_refine.specs.Numbered.{number_at};
 ghost use Rattle.gta_refine.specs.Firsts.{first_of, AreFirsts, KeepsFirsts};
 
-use crate::form::FormSpace;
-use bdd_list::Listed;
 use bdd_nodes::NodeRef;
 use gta_classes::set_at;
+use gta_reach::{FormSpace, Side, above, cell_of, kinds_of};
 use std::alloc::{AllocError, Global};
 use std::collections::HashMap;
-
-/// The left or the right child.
-#[derive(Clone, Copy, Debug)]
-pub(crate) enum Side {
-    Left,
-    Right,
-}
-
-/// The classes of the states of a child.
-#[inline]
-pub(crate) fn kinds_of(space: &FormSpace, side: Side) -> &[u32]
-    ensures { result.now ≡ kinds_in space.now side }
-{
-    match side {
-        Side::Left => space.rows.as_slice(),
-        Side::Right => space.columns.as_slice(),
-    }
-}
-
-/// Which root a state of a child has with one of the other child.
-#[inline]
-pub(crate) fn cell_of(space: &FormSpace, side: Side, own: u32, beside: u32) -> usize
-    requires { HasRootAt space.now side own beside }
-    ensures value { result ≡ cell_at space.now side own beside }
-    ensures within { result < length space.now.listing.roots }
-{
-    match side {
-        Side::Left => space.cell(own, beside),
-        Side::Right => space.cell(beside, own),
-    }
-}
-
-/// What is listed for a state of a child with one of the other child.
-#[inline]
-pub(crate) fn listed_of(space: &FormSpace, side: Side, own: u32, beside: u32) -> Listed
-    requires { HasRootAt space.now side own beside }
-    ensures { result ≡ root_in space.now (cell_at space.now side own beside) }
-{
-    match side {
-        Side::Left => space.listed(own, beside),
-        Side::Right => space.listed(beside, own),
-    }
-}
 
 /// The number of the root of a state with one beside it.
 #[inline]
@@ -104,19 +60,6 @@ fn first_with(
     }
     firsts.insert(row, state)?;
     Ok(state)
-}
-
-/// A number above all of these.
-pub(crate) fn above(numbers: &[u32]) -> usize
-    ensures { (i : ℕ) → slice_index numbers.now i < result }
-{
-    let mut above = 1;
-    for number in numbers {
-        if *number as usize >= above {
-            above = *number as usize + 1;
-        }
-    }
-    above
 }
 
 /// A number for each class of a child's states: equal ones exactly where the states have equal rows.

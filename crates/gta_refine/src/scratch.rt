@@ -4,8 +4,8 @@ ghost use Rattle.std.specs.Prelude.{◌≡◌, ◌≤◌, ℕ, length, IfOk};
 ghost use Rattle.gta_refine.specs.Refined.{part_at};
 ghost use Rattle.gta_refine.specs.Scratch.{IsReady};
 
-use crate::form::Form;
 use gta_classes::SpaceClasses;
+use gta_reach::Form;
 use std::alloc::{AllocError, Global};
 
 /// Marks and numbers, none of them set between two cuts.

@@ -1,20 +1,19 @@
 //! Who uses what in a space: which nodes and roots have what is listed, and which child states have a root.
 
 ghost use Rattle.std.specs.Prelude.{◌≡◌, ◌<◌, ◌≤◌, ℕ, Contains, Some, length, slice_get, vec_len, IfOk};
-ghost use Rattle.gta_refine.specs.declared.form.FormSpace.{FormSpace};
-ghost use Rattle.gta_refine.specs.Form.{IsForm};
+ghost use Rattle.gta_reach.specs.declared.form.FormSpace.{FormSpace};
+ghost use Rattle.gta_reach.specs.Form.{IsForm};
 ghost use Rattle.gta_refine.specs.Refined.{ArePartition};
-ghost use Rattle.gta_refine.specs.Rows.{HasRootAt};
+ghost use Rattle.gta_reach.specs.Sides.{HasRootAt};
 ghost use Rattle.gta_refine.specs.Uses.{above_of, IsAddedAbove, AreAbove, HasSide, IsRoot, side_of};
 ghost use Rattle.gta_refine.specs.Uses.{AddsOwner, AreOwners, AreLikes, AreSideUses, IsUses, AreUses};
 
-use crate::form::{Form, FormSpace};
-use crate::rounds::{child, choose_of, other, part_of};
-use crate::rows::{Side, above, cell_of, kinds_of};
+use crate::rounds::{choose_of, other, part_of};
 use bdd_list::{Listed, ListedNode};
 use gta_classes::{
     NumberList, NumberLists, SpaceClasses, add_at, empty_lists, number_of, numbers_at,
 };
+use gta_reach::{Form, FormSpace, Side, above, cell_of, child, kinds_of};
 use plain_data::Items;
 use std::alloc::{AllocError, Global};
 

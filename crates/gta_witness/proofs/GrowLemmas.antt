@@ -23,8 +23,8 @@ use Rattle.ws2s_core.specs.LabelTrees.{node_assignment, assignment_of, children_
 use Rattle.ws2s_core.proofs.LabelTreesLemmas.{Covers-at}
 use Rattle.ws2s_theory.specs.Trees.{child_at, label_of, last_place}
 use Rattle.ws2s_theory.proofs.TreesLemmas.{root-at}
-use Rattle.gta_refine.specs.declared.form.Form.{Form}
-use Rattle.gta_refine.specs.Form.{guide_of, automaton_of, IsForm}
+use Rattle.gta_reach.specs.declared.form.Form.{Form}
+use Rattle.gta_reach.specs.Form.{guide_of, automaton_of, IsForm}
 use Rattle.gta_witness.specs.declared.goal.Goal.TheVariants.{State}
 use Rattle.gta_witness.specs.declared.goal.Weight.{Weight}
 use Rattle.gta_witness.specs.declared.grow.Task.{Task}

@@ -20,10 +20,10 @@ use Rattle.gta_theory.proofs.AutomataLemmas.{Accepts-at, value-same}
 use Rattle.ws2s_core.specs.declared.track.Track.{Track}
 use Rattle.ws2s_core.specs.declared.label_tree.TreeNode.{TreeNode}
 use Rattle.ws2s_core.proofs.LabelTreesLemmas.{Covers-tree}
-use Rattle.gta_refine.specs.declared.form.FormSpace.{FormSpace}
-use Rattle.gta_refine.specs.declared.form.Form.{Form}
-use Rattle.gta_refine.specs.Form.{guide_of, automaton_of, states_of, cell_in, root_in, IsForm}
-use Rattle.gta_refine.proofs.ReachLemmas.{left-at, right-at, initial-at, initial-form, step-at, many_spaces, none-inside}
+use Rattle.gta_reach.specs.declared.form.FormSpace.{FormSpace}
+use Rattle.gta_reach.specs.declared.form.Form.{Form}
+use Rattle.gta_reach.specs.Form.{guide_of, automaton_of, states_of, cell_in, root_in, IsForm}
+use Rattle.gta_reach.proofs.ReachLemmas.{left-at, right-at, initial-at, initial-form, step-at, many_spaces, none-inside}
 use Rattle.gta_witness.specs.declared.goal.Goal.{Goal}
 use Rattle.gta_witness.specs.declared.goal.Goal.TheVariants.{State, Node, Row, Column}
 use Rattle.gta_witness.specs.declared.goal.Reason.TheVariants.{Initial, Member, Cell, Side}

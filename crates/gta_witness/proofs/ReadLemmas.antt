@@ -13,10 +13,10 @@ use Rattle.gta_theory.specs.Weights.{label_weight}
 use Rattle.gta_theory.specs.Guides.{left, right}
 use Rattle.ws2s_core.specs.declared.track.Track.{Track}
 use Rattle.ws2s_theory.specs.Trees.{label_of}
-use Rattle.gta_refine.specs.declared.form.FormSpace.{FormSpace}
-use Rattle.gta_refine.specs.declared.form.Form.{Form}
-use Rattle.gta_refine.specs.Form.{guide_of, automaton_of, cell_in, root_in}
-use Rattle.gta_refine.proofs.ReachLemmas.{left-at, right-at, initial-at, initial-form, step-at}
+use Rattle.gta_reach.specs.declared.form.FormSpace.{FormSpace}
+use Rattle.gta_reach.specs.declared.form.Form.{Form}
+use Rattle.gta_reach.specs.Form.{guide_of, automaton_of, cell_in, root_in}
+use Rattle.gta_reach.proofs.ReachLemmas.{left-at, right-at, initial-at, initial-form, step-at}
 use Rattle.gta_witness.specs.declared.goal.Goal.{Goal}
 use Rattle.gta_witness.specs.declared.goal.Goal.TheVariants.{State, Node, Row, Column}
 use Rattle.gta_witness.specs.declared.goal.Weight.{Weight}

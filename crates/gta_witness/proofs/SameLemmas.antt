@@ -10,8 +10,8 @@ use Rattle.ws2s_core.specs.declared.track.Track.{Track}
 use Rattle.ws2s_core.specs.declared.label_tree.TreeNode.{TreeNode}
 use Rattle.ws2s_core.specs.LabelTrees.{assignment_of}
 use Rattle.gta_core.specs.Auto.{AutoView, states_of, automaton_of, IsAuto}
-use Rattle.gta_refine.specs.declared.form.Form.{Form}
-use Rattle.gta_refine.specs.Form as form
+use Rattle.gta_reach.specs.declared.form.Form.{Form}
+use Rattle.gta_reach.specs.Form as form
 use Rattle.gta_form.specs.Listed.{IsFormOf}
 use Rattle.gta_witness.specs.Lightest.{IsLightestTree}
 

@@ -8,7 +8,7 @@ use Rattle.std.specs.HashMap.{Updates}
 use Rattle.std.proofs.lemmas.Bool.{and_from, and_parts, false≢true, cases_Bool}
 use Rattle.std.proofs.lemmas.List.Sorted.{Contains-permutation, IsPermutation-sym}
 use Rattle.gta_theory.proofs.ListsLemmas.{Contains-first, Contains-later, Contains-cases}
-use Rattle.gta_refine.specs.declared.form.Form.{Form}
+use Rattle.gta_reach.specs.declared.form.Form.{Form}
 use Rattle.gta_witness.specs.declared.goal.Goal.{Goal}
 use Rattle.gta_witness.specs.declared.goal.Reason.{Reason}
 use Rattle.gta_witness.specs.declared.goal.Weight.{Weight}

@@ -7,8 +7,8 @@ use Rattle.ws2s_core.specs.declared.track.Track.{Track}
 use Rattle.ws2s_core.specs.declared.label_tree.TreeNode.{TreeNode}
 use Rattle.ws2s_core.specs.LabelTrees.{assignment_of, times_named}
 use Rattle.ws2s_theory.specs.Trees.{child_at, label_of}
-use Rattle.gta_refine.specs.declared.form.Form.{Form}
-use Rattle.gta_refine.specs.Form.{guide_of, automaton_of}
+use Rattle.gta_reach.specs.declared.form.Form.{Form}
+use Rattle.gta_reach.specs.Form.{guide_of, automaton_of}
 use Rattle.gta_witness.specs.declared.goal.Goal.TheVariants.{State}
 use Rattle.gta_witness.specs.declared.goal.Weight.{Weight}
 use Rattle.gta_witness.specs.declared.goal.Found.{Found}

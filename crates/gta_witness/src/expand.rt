@@ -8,7 +8,7 @@ ghost use Rattle.gta_witness.specs.Following.{FollowsRow, FollowsColumn, Follows
 
 use crate::goal::{Goal, Reason, Weight, goal_of};
 use crate::relax::{Search, relax};
-use gta_refine::Form;
+use gta_reach::Form;
 use plain_data::Items;
 use std::alloc::AllocError;
 use std::collections::HashSet;

@@ -11,7 +11,7 @@ ghost use Rattle.gta_witness.specs.Growing.{Want, rounds, Grows, IsTreeTo};
 
 use crate::read::step_of;
 use crate::relax::Search;
-use gta_refine::Form;
+use gta_reach::Form;
 use plain_data::{Items, Stack};
 use std::alloc::{AllocError, Global};
 use ws2s_core::{LabelTree, Track, TrackList, TreeNode};

@@ -4,7 +4,7 @@ ghost use Rattle.std.specs.Prelude.{◌≡◌, ◌↔◌, ℕ, IfOk, IfSome, Non
 ghost use Rattle.gta_theory.specs.Assignments.{Assignment};
 ghost use Rattle.gta_theory.specs.Automata.{Accepts};
 ghost use Rattle.gta_core.specs.Auto.{automaton_of, IsAuto};
-ghost use Rattle.gta_refine.specs.Form.{IsForm, guide_of as form_guide, automaton_of as form_automaton};
+ghost use Rattle.gta_reach.specs.Form.{IsForm, guide_of as form_guide, automaton_of as form_automaton};
 ghost use Rattle.gta_witness.specs.Lightest.{is_among, IsLightestTree};
 ghost use Rattle.gta_witness.specs.Searching.{weighs_in};
 
@@ -14,7 +14,7 @@ use bdd_nodes::Shelf;
 use bdd_walk::NoMemory;
 use gta_core::Auto;
 use gta_form::form_of;
-use gta_refine::Form;
+use gta_reach::Form;
 use std::alloc::{AllocError, Global};
 use std::collections::HashSet;
 use ws2s_core::{Guide, LabelTree, Track, TrackList};

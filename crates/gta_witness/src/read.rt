@@ -9,7 +9,7 @@ ghost use Rattle.gta_witness.specs.Reading.{IsReadable, HasReason, HasSomeStep, 
 
 use crate::goal::{Goal, Reason};
 use crate::relax::Search;
-use gta_refine::Form;
+use gta_reach::Form;
 use plain_data::Items;
 use std::alloc::{AllocError, Global};
 use ws2s_core::{Track, TrackList};

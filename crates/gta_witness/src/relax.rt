@@ -2,7 +2,7 @@
 
 ghost use Rattle.std.specs.Prelude.{◌≡◌, ◌≤◌, ℕ, Bool, IfOk, None};
 ghost use Rattle.std.specs.BinaryHeap.{heap_items};
-ghost use Rattle.gta_refine.specs.declared.form.Form.{Form};
+ghost use Rattle.gta_reach.specs.declared.form.Form.{Form};
 ghost use Rattle.gta_witness.specs.declared.goal.Goal.{Goal};
 ghost use Rattle.gta_witness.specs.Rules.{key};
 ghost use Rattle.gta_witness.specs.Searching.{found_by, settled_weight, IsHigher, IsSearch, GoesOn, IsCovered, IsJustified};

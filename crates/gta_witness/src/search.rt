@@ -2,13 +2,13 @@
 
 ghost use Rattle.std.specs.Prelude.{◌≡◌, ℕ, true, IfOk, Some, Contains};
 ghost use Rattle.std.specs.HashMap.{Updates};
-ghost use Rattle.gta_refine.specs.Form.{automaton_of};
+ghost use Rattle.gta_reach.specs.Form.{automaton_of};
 ghost use Rattle.gta_witness.specs.Searching.{same_goal, weighs_in, found_by, list_at, Ends, Stands, Running, IsStart, IsTaken, AddsTo, AddsLine, AcceptsAt};
 
 use crate::expand::{Lines, expand};
 use crate::goal::{Found, Goal, Reason, Weight};
 use crate::relax::{Search, relax};
-use gta_refine::Form;
+use gta_reach::Form;
 use plain_data::Items;
 use std::alloc::{AllocError, Global};
 use std::collections::HashSet;

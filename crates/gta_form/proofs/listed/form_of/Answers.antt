@@ -1,6 +1,6 @@
 -- The form of all spaces.
 use Rattle.std.proofs.Common.{◌≡◌, ◌+◌, List, length, sym, subst, arith}
-use Rattle.gta_refine.specs.declared.form.FormSpace.{FormSpace}
+use Rattle.gta_reach.specs.declared.form.FormSpace.{FormSpace}
 use Rattle.gta_form.proofs.FormLemmas.{AreSpacesOf, AreSpacesOf-push, IsForm-all, IsFormOf-all}
 use Rattle.gta_form.proofs.listed.form_of.Goals as goal
 

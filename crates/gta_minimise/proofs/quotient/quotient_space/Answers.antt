@@ -8,7 +8,7 @@ use Rattle.gta_theory.specs.Guides.{Spaces, left, right}
 use Rattle.gta_core.specs.Auto.{states_of}
 use Rattle.gta_room.proofs.ProgressLemmas.{Adds-none, Adds-also, IsStuck-also}
 use Rattle.gta_classes.specs.declared.part.SpaceClasses.{SpaceClasses}
-use Rattle.gta_refine.specs.Form as form
+use Rattle.gta_reach.specs.Form as form
 use Rattle.gta_refine.specs.Refined.{part_at}
 use Rattle.gta_minimise.specs.Renamed.{IsUnderRenamed, AreRenamed}
 use Rattle.gta_minimise.specs.Quotient.{ArePairs, IsUnderClasses}

@@ -4,10 +4,10 @@ use Rattle.std.specs.Prelude.{slice_get, slice_index}
 use Rattle.std.specs.List.{range_with_len}
 use Rattle.std.proofs.lemmas.Option.{slice_get_read}
 use Rattle.std.proofs.Math.Nat.{mul-le-mul}
-use Rattle.gta_refine.specs.declared.form.FormSpace.{FormSpace}
+use Rattle.gta_reach.specs.declared.form.FormSpace.{FormSpace}
 use Rattle.gta_classes.specs.declared.part.SpaceClasses.{SpaceClasses}
 use Rattle.gta_refine.specs.Refined.{part_at}
-use Rattle.gta_refine.proofs.ReachLemmas.{initial-form, initial-at}
+use Rattle.gta_reach.proofs.ReachLemmas.{initial-form, initial-at}
 use Rattle.gta_minimise.specs.Rows.{AreSharedRows}
 use Rattle.gta_minimise.proofs.QuotientLemmas.{spaces-there, few-classes, initial-classed, left-space, right-space, rows-there, columns-there}
 use Rattle.gta_minimise.proofs.QuotientLemmas.{space-inside, IsSharedPart-made}

@@ -2,13 +2,13 @@
 use Rattle.std.proofs.Common.{◌≡◌, ◌<◌, ℕ, List, [], length, Some, sym, ◌∙◌, subst, arith}
 use Rattle.std.specs.Prelude.{slice_get, slice_index_or}
 use Rattle.std.proofs.lemmas.List.{get_or_default}
-use Rattle.gta_refine.specs.declared.form.Form.{Form}
+use Rattle.gta_reach.specs.declared.form.Form.{Form}
 use Rattle.gta_classes.specs.declared.part.SpaceClasses.{SpaceClasses}
 use Rattle.gta_classes.specs.Classes.{AreClasses}
 use Rattle.gta_classes.specs.Cuts.{Covers}
 use Rattle.gta_refine.specs.Cuts.{ClassLists}
 use Rattle.gta_refine.specs.Refined.{part_at, ArePartition}
-use Rattle.gta_refine.proofs.ReachLemmas.{many_spaces}
+use Rattle.gta_reach.proofs.ReachLemmas.{many_spaces}
 use Rattle.gta_refine.proofs.CutLemmas.{AllCover-push}
 use Rattle.gta_refine.proofs.cascade.all_lists.Goals as goal
 

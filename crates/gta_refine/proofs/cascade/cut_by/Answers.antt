@@ -7,8 +7,9 @@ use Rattle.gta_classes.specs.Classes.{AreClasses}
 use Rattle.gta_classes.specs.Cuts.{Covers}
 use Rattle.gta_refine.specs.Cuts.{ClassLists, IsCutAt}
 use Rattle.gta_refine.specs.Givers.{AreGivers}
-use Rattle.gta_refine.specs.Refined.{part_at, is_reached_in, child_of}
-use Rattle.gta_refine.proofs.ReachLemmas.{many_spaces}
+use Rattle.gta_refine.specs.Refined.{part_at, is_reached_in}
+use Rattle.gta_reach.specs.Sides.{child_of}
+use Rattle.gta_reach.proofs.ReachLemmas.{many_spaces}
 use Rattle.gta_refine.proofs.RefineLemmas.{child-inside, child-classes}
 use Rattle.gta_refine.proofs.CutLemmas.{listed-reached, ArePartition-cut_at, room-cut_at}
 use Rattle.gta_classes.specs.Marks.{AreZero}

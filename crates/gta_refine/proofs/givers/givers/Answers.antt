@@ -5,7 +5,7 @@ use Rattle.bdd_list.specs.declared.listing.ListedNode.{ListedNode}
 use Rattle.bdd_list.specs.Listing.{AreOrdered}
 use Rattle.gta_classes.specs.declared.part.SpaceClasses.{SpaceClasses}
 use Rattle.gta_refine.specs.declared.uses.SideUses.{SideUses}
-use Rattle.gta_refine.specs.Rows.{kinds_in}
+use Rattle.gta_reach.specs.Sides.{kinds_in}
 use Rattle.gta_classes.specs.Lists.{list_at}
 use Rattle.gta_refine.specs.Uses.{above_of, side_of}
 use Rattle.gta_refine.specs.Givers.{AreClimbed, AreMembers}

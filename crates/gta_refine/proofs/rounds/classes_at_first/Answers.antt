@@ -5,7 +5,7 @@ use Rattle.gta_classes.specs.declared.part.SpaceClasses.{SpaceClasses}
 use Rattle.gta_classes.specs.Classes.{AreClasses, IsSplit}
 use Rattle.gta_refine.specs.Refined.{part_at, is_reached_in, bit_of, ArePartition}
 use Rattle.gta_classes.proofs.ChosenLemmas.{marked-inside}
-use Rattle.gta_refine.proofs.ReachLemmas.{few-states}
+use Rattle.gta_reach.proofs.ReachLemmas.{few-states}
 use Rattle.gta_refine.proofs.RefineLemmas.{zero_inside, bits-say, ArePartition-first, after-part}
 use Rattle.gta_refine.proofs.rounds.classes_at_first.Goals as goal
 

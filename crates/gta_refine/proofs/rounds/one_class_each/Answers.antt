@@ -4,11 +4,11 @@ use Rattle.std.specs.Prelude.{slice_get, slice_index_or}
 use Rattle.std.proofs.lemmas.List.{get_or_read}
 use Rattle.std.proofs.lemmas.Option.{slice_get_read}
 use Rattle.gta_theory.specs.Guides.{IsSpace}
-use Rattle.gta_refine.specs.declared.form.FormSpace.{FormSpace}
+use Rattle.gta_reach.specs.declared.form.FormSpace.{FormSpace}
 use Rattle.gta_classes.specs.declared.part.SpaceClasses.{SpaceClasses}
-use Rattle.gta_refine.specs.Form.{guide_of, initial_of}
+use Rattle.gta_reach.specs.Form.{guide_of, initial_of}
 use Rattle.gta_classes.specs.Chosen.{is_marked}
-use Rattle.gta_refine.proofs.ReachLemmas.{initial-at, many_spaces}
+use Rattle.gta_reach.proofs.ReachLemmas.{initial-at, many_spaces}
 use Rattle.gta_refine.proofs.RefineLemmas.{SinglesBelow, SinglesBelow-push, AreSingle-all, initial-reached}
 use Rattle.gta_refine.proofs.rounds.one_class_each.Goals as goal
 

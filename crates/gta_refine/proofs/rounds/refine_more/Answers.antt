@@ -2,7 +2,7 @@
 use Rattle.std.proofs.Common.{◌≡◌, ℕ, Bool, List, inl, inr, sym, ◌∙◌, subst, arith}
 use Rattle.std.proofs.lemmas.Bool.{cases_lt, false≢true}
 use Rattle.gta_classes.specs.declared.part.SpaceClasses.{SpaceClasses}
-use Rattle.gta_refine.specs.declared.rows.Side.TheVariants.{Left, Right}
+use Rattle.gta_reach.specs.declared.sides.Side.TheVariants.{Left, Right}
 use Rattle.gta_refine.specs.Refined.{IsStableAt, room_in, TakesRoom}
 use Rattle.gta_refine.proofs.RoomLemmas.{TakesRoom-more, TakesRoom-none}
 use Rattle.gta_refine.proofs.rounds.refine_more.Goals as goal

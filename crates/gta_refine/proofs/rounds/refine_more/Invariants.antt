@@ -1,6 +1,6 @@
 use Rattle.std.proofs.Common.{◌≡◌, ◌<◌, ℕ, false}
 use Rattle.gta_refine.specs.Refined.{ArePartition, IsStableAt, room_in, TakesRoom}
-use Rattle.gta_refine.specs.declared.rows.Side.TheVariants.{Left, Right}
+use Rattle.gta_reach.specs.declared.sides.Side.TheVariants.{Left, Right}
 use Rattle.gta_refine.proofs.rounds.refine_more.Given as goal
 
 abbrev pub invariant-loop-s : goal.invariant-loop-s

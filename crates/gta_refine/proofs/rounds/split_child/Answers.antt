@@ -3,11 +3,12 @@ use Rattle.std.proofs.Common.{◌≡◌, ◌<◌, ℕ, List, [], Some, length, r
 use Rattle.std.specs.Prelude.{slice_get, slice_set}
 use Rattle.std.proofs.lemmas.List.{get_or_read}
 use Rattle.std.proofs.lemmas.Option.{slice_get_read}
-use Rattle.gta_refine.specs.declared.form.FormSpace.{FormSpace}
+use Rattle.gta_reach.specs.declared.form.FormSpace.{FormSpace}
 use Rattle.gta_classes.specs.declared.part.SpaceClasses.{SpaceClasses}
-use Rattle.gta_refine.specs.Form.{guide_of}
+use Rattle.gta_reach.specs.Form.{guide_of}
 use Rattle.gta_classes.specs.Classes.{AreClasses, IsSplit}
-use Rattle.gta_refine.specs.Refined.{part_at, child_of, child_at, AreChildIds, ArePartition, IsStableAt, room_in, TakesRoom}
+use Rattle.gta_refine.specs.Refined.{part_at, AreChildIds, ArePartition, IsStableAt, room_in, TakesRoom}
+use Rattle.gta_reach.specs.Sides.{child_of, child_at}
 use Rattle.gta_refine.proofs.RefineLemmas.{child-inside, child-few, child-is, child-classes, ArePartition-child, unsplit-child, IsStableAt-child}
 use Rattle.gta_refine.proofs.RoomLemmas.{TakesRoom-part}
 use Rattle.gta_refine.proofs.rounds.split_child.Goals as goal

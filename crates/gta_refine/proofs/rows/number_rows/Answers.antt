@@ -2,7 +2,8 @@
 use Rattle.std.proofs.Common.{◌≡◌, ℕ, ◌+◌, ◌<◌, List, length, sym, ◌∙◌, ap, subst, arith}
 use Rattle.std.specs.Prelude.{slice_index, slice_set}
 use Rattle.std.proofs.lemmas.Option.{slice_get-get_or}
-use Rattle.gta_refine.specs.Rows.{kinds_in, row_of}
+use Rattle.gta_refine.specs.Rows.{row_of}
+use Rattle.gta_reach.specs.Sides.{kinds_in}
 use Rattle.gta_refine.proofs.RowsLemmas.{IdsBelow, IdsBelow-push, AreIds-all}
 use Rattle.gta_refine.proofs.rows.number_rows.Goals as goal
 

@@ -2,7 +2,7 @@
 use Rattle.std.proofs.Common.{◌≡◌, ℕ, length, ◌∙◌, subst, arith}
 use Rattle.std.specs.Prelude.{slice_index}
 use Rattle.gta_classes.specs.Lists.{IsAdded}
-use Rattle.gta_refine.specs.Rows.{cell_at}
+use Rattle.gta_reach.specs.Sides.{cell_at}
 use Rattle.gta_refine.proofs.UsesLemmas.{OwnerBelow, OwnerBelow-next, AddsOwner-all}
 use Rattle.gta_refine.proofs.uses.add_owner.Goals as goal
 

@@ -1,15 +1,16 @@
 -- The child states on a side.
 use Rattle.std.proofs.Common.{◌≡◌, ◌<◌, ◌≤◌, ◌^◌, ℕ, Bool, List, Some, length, sym, ◌∙◌, ap, subst, arith}
 use Rattle.std.specs.Prelude.{Contains, nat_lt}
-use Rattle.gta_refine.specs.declared.form.FormSpace.{FormSpace}
+use Rattle.gta_reach.specs.declared.form.FormSpace.{FormSpace}
 use Rattle.gta_classes.specs.declared.part.SpaceClasses.{SpaceClasses}
-use Rattle.gta_refine.specs.declared.rows.Side.{Side}
+use Rattle.gta_reach.specs.declared.sides.Side.{Side}
 use Rattle.gta_refine.specs.declared.uses.SideUses.{SideUses}
-use Rattle.gta_refine.specs.Form.{guide_of}
+use Rattle.gta_reach.specs.Form.{guide_of}
 use Rattle.gta_classes.specs.Chosen.{AreChosen}
-use Rattle.gta_refine.specs.Rows.{kinds_in}
+use Rattle.gta_reach.specs.Sides.{kinds_in}
 use Rattle.gta_refine.specs.Uses.{AreOwners, AreLikes, AreSideUses}
-use Rattle.gta_refine.specs.Refined.{part_at, child_of, child_at, opposite}
+use Rattle.gta_refine.specs.Refined.{part_at}
+use Rattle.gta_reach.specs.Sides.{child_of, child_at, opposite}
 use Rattle.gta_classes.proofs.ListsLemmas.{Contains-among}
 use Rattle.gta_refine.proofs.RefineLemmas.{child-inside, child-kinds, child-few, child-is, child-chosen, has_root-at}
 use Rattle.gta_refine.proofs.UsesLemmas.{AreSideUses-chosen}

@@ -2,10 +2,10 @@
 use Rattle.std.proofs.Common.{◌≡◌, List, Some, length, sym, ◌∙◌, ap, subst}
 use Rattle.bdd_list.specs.declared.listing.Listed.{Listed}
 use Rattle.bdd_list.specs.declared.listing.ListedNode.{ListedNode}
-use Rattle.gta_refine.specs.declared.form.FormSpace.{FormSpace}
+use Rattle.gta_reach.specs.declared.form.FormSpace.{FormSpace}
 use Rattle.gta_classes.specs.declared.part.SpaceClasses.{SpaceClasses}
 use Rattle.gta_refine.specs.declared.uses.SpaceUses.{SpaceUses}
-use Rattle.gta_refine.specs.Form.{states_of}
+use Rattle.gta_reach.specs.Form.{states_of}
 use Rattle.gta_refine.specs.Uses.{AreAbove, HasSide, IsRoot, IsUses}
 use Rattle.gta_refine.proofs.RefineLemmas.{there-is}
 use Rattle.gta_refine.proofs.uses.space_uses.Goals as goal

@@ -1,6 +1,6 @@
 use Rattle.std.proofs.Common.{◌≡◌, ℕ, Some, vec_len}
 use Rattle.std.specs.Prelude.{slice_get}
-use Rattle.gta_refine.specs.declared.form.FormSpace.{FormSpace}
+use Rattle.gta_reach.specs.declared.form.FormSpace.{FormSpace}
 use Rattle.gta_refine.specs.declared.uses.SpaceUses.{SpaceUses}
 use Rattle.gta_refine.specs.Uses.{IsUses}
 use Rattle.gta_refine.proofs.uses.uses_of.Given as goal

@@ -1,6 +1,6 @@
 -- A state's tree is begun.
 use Rattle.std.proofs.Common.{◌≡◌, ◌<◌, ℕ, List, ◌∷◌, Option, Some, sym, ap, ◌∙◌, subst, slice_get}
-use Rattle.gta_refine.proofs.ReachLemmas.{left-at, right-at}
+use Rattle.gta_reach.proofs.ReachLemmas.{left-at, right-at}
 use Rattle.gta_witness.specs.declared.grow.Task.{Task}
 use Rattle.gta_witness.specs.declared.grow.Task.TheVariants.{Visit, Join}
 use Rattle.gta_witness.specs.Searching.{found_by}

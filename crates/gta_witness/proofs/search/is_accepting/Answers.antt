@@ -2,7 +2,7 @@
 use Rattle.std.proofs.Common.{Bool, false, Option, sym, ap, ◌∙◌}
 use Rattle.std.specs.Prelude.{unwrap_or}
 use Rattle.std.proofs.lemmas.Option.{unwrap_or-slice_get}
-use Rattle.gta_refine.proofs.ReachLemmas.{accepting-form}
+use Rattle.gta_reach.proofs.ReachLemmas.{accepting-form}
 use Rattle.gta_witness.proofs.search.is_accepting.Goals as goal
 
 pub returns-in-Some : goal.returns-in-Some

@@ -1,5 +1,5 @@
 use Rattle.std.proofs.Common.{◌≡◌, ◌<◌, ℕ, Some, slice_get}
-use Rattle.gta_refine.specs.declared.form.FormSpace.{FormSpace}
+use Rattle.gta_reach.specs.declared.form.FormSpace.{FormSpace}
 use Rattle.gta_witness.specs.declared.goal.Goal.{Goal}
 use Rattle.gta_witness.specs.declared.goal.Goal.TheVariants.{State}
 use Rattle.gta_witness.specs.declared.goal.Weight.{Weight}

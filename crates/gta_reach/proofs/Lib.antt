@@ -1,0 +1,4 @@
+pub mod SweepLemmas
+pub mod ReachLemmas
+pub mod ExploreLemmas
+pub mod NodeLemmas

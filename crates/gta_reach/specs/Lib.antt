@@ -1,0 +1,4 @@
+pub mod Form
+pub mod Reached
+pub mod Sides
+pub mod Exploring

@@ -1,9 +1,0 @@
-use Rattle.std.proofs.Common.{◌≡◌, vec_len}
-use Rattle.gta_refine.specs.Exploring.{AllKeepNone}
-use Rattle.gta_refine.proofs.explore.keep_none_each.Given as goal
-
-abbrev pub invariant-loop-s : goal.invariant-loop-s
-invariant-loop-s l = record {
-  many : vec_len l.kept ≡ l.s;
-  none : AllKeepNone l.kept.items;
-}
