@@ -31,7 +31,8 @@ module _ (nodes : List ListedNode) (ordered : AreOrdered nodes) (i : ℕ) (insid
     }
     | inr high ↦ record {
       label = with_track gives.label (node_at nodes i).track true;
-      gives = subst (Contains states) (sym (gives-high nodes ordered i inside gives.label ∙ ap (λ (l : Listed). function_in nodes l gives.label) high)) gives.gives;
+      gives = subst (Contains states) (sym (gives-high nodes ordered i inside gives.label ∙ ap (λ
+          (l : Listed). function_in nodes l gives.label) high)) gives.gives;
     }
   ]
 

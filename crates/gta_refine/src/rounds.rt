@@ -3,10 +3,9 @@
 ghost use Rattle.std.specs.Prelude.{◌≡◌, ◌<◌, ◌≤◌, ◌^◌, ℕ, true, false, length, map, slice_index, IfOk};
 ghost use Rattle.gta_reach.specs.Form.{IsForm};
 ghost use Rattle.gta_classes.specs.Chosen.{is_marked, AreChosen};
-ghost use Rattle.gta_reach.specs.Sides.{kinds_in};
+ghost use Rattle.gta_reach.specs.Sides.{kinds_in, opposite, child_of};
 ghost use Rattle.gta_classes.specs.Classes.{AreClasses, IsSplit};
 ghost use Rattle.gta_refine.specs.Refined.{part_at, bit_of, room_in, TakesRoom};
-ghost use Rattle.gta_reach.specs.Sides.{opposite, child_of};
 ghost use Rattle.gta_refine.specs.Refined.{AreSingle, ArePartition, AreChildIds, IsStableAt, IsRefined};
 ghost use Rattle.gta_reach.specs.declared.sides.Side.TheVariants.{Left, Right};
 
