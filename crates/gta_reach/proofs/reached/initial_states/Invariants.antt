@@ -1,7 +1,7 @@
 use Rattle.std.proofs.Common.{◌≡◌, ◌<◌, ℕ, false, true, Some, vec_len}
 use Rattle.std.specs.Prelude.{slice_get, slice_index_or, slice_set, replicate, []}
 use Rattle.gta_reach.specs.declared.form.FormSpace.{FormSpace}
-use Rattle.gta_reach.proofs.reach.initial_states.Given as goal
+use Rattle.gta_reach.proofs.reached.initial_states.Given as goal
 
 abbrev pub invariant-loop-space : goal.invariant-loop-space
 invariant-loop-space l = record {

@@ -1,5 +1,5 @@
 use Rattle.gta_reach.proofs.ReachLemmas.{AreReached-closed}
-use Rattle.gta_reach.proofs.reach.reach.Goals as goal
+use Rattle.gta_reach.proofs.reached.reach.Goals as goal
 
 pub returns-then-not-branch : goal.returns-then-not-branch
 returns-then-not-branch c =

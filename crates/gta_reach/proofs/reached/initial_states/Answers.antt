@@ -2,7 +2,7 @@
 use Rattle.std.proofs.Common.{◌≡◌, length, ap, arith}
 use Rattle.std.proofs.lemmas.Option.{slice_get_within}
 use Rattle.gta_reach.proofs.ReachLemmas.{initial-marks}
-use Rattle.gta_reach.proofs.reach.initial_states.Goals as goal
+use Rattle.gta_reach.proofs.reached.initial_states.Goals as goal
 
 pub returns : goal.returns
 returns c =

@@ -2,8 +2,8 @@
 use Rattle.std.proofs.Common.{◌≡◌, List, Bool, inl, inr, sym, ◌∙◌, subst, arith}
 use Rattle.std.proofs.lemmas.Bool.{cases_lt, false≢true}
 use Rattle.gta_reach.specs.Reached.{IsClosedIn}
-use Rattle.gta_reach.proofs.reach.reach_more.Goals as goal
-use Rattle.gta_reach.proofs.reach.reach_more.Goals.{then-branch, else-branch}
+use Rattle.gta_reach.proofs.reached.reach_more.Goals as goal
+use Rattle.gta_reach.proofs.reached.reach_more.Goals.{then-branch, else-branch}
 
 pub loop-s-preserved : goal.loop-s-preserved
 loop-s-preserved c = record {

@@ -1,6 +1,6 @@
 use Rattle.std.proofs.Common.{◌≡◌, ◌<◌, ℕ, false}
 use Rattle.gta_reach.specs.Reached.{AreGenerated, IsClosedIn}
-use Rattle.gta_reach.proofs.reach.reach_more.Given as goal
+use Rattle.gta_reach.proofs.reached.reach_more.Given as goal
 
 abbrev pub invariant-loop-s : goal.invariant-loop-s
 invariant-loop-s l = record {

@@ -10,8 +10,8 @@ use Rattle.gta_classes.specs.Chosen.{IsAmong, AreChosen}
 use Rattle.gta_reach.specs.Reached.{IsSwept, IsClosedIn}
 use Rattle.gta_reach.proofs.ReachLemmas.{left-at, right-at, left-inside, right-inside, left-rows, right-columns, left-few, right-few, has_root}
 use Rattle.gta_reach.proofs.ReachLemmas.{step-below, AreGenerated-swept, IsClosedIn-swept}
-use Rattle.gta_reach.proofs.reach.reach_in.Goals as goal
-use Rattle.gta_reach.proofs.reach.reach_in.Goals.{After-index_mut}
+use Rattle.gta_reach.proofs.reached.reach_in.Goals as goal
+use Rattle.gta_reach.proofs.reached.reach_in.Goals.{After-index_mut}
 
 pub marks_of-requires : goal.marks_of-requires
 marks_of-requires c =
