@@ -14,7 +14,7 @@ use crate::numbers::number_roots;
 use crate::rows::number_rows;
 use crate::uses::uses_of;
 use gta_classes::{SpaceClasses, SpaceClassesList, choose, split};
-use gta_reach::{Form, FormSpace, Side, kinds_of, reach};
+use gta_reach::{Form, FormSpace, Side, child, kinds_of, reach};
 use plain_data::Items;
 use std::alloc::{AllocError, Global};
 
