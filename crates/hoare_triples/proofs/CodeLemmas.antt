@@ -13,21 +13,21 @@ use Rattle.pale_typed.specs.declared.typed.ProcEntry.{ProcEntry}
 use Rattle.pale_typed.specs.declared.typed.Stmt.{Stmt}
 use Rattle.pale_typed.specs.declared.typed.Stmt.TheVariants as stmt
 use Rattle.hoare_split.specs.declared.caller.Caller.{Caller}
-use Rattle.hoare_split.specs.declared.codes.Ending.{Ending}
-use Rattle.hoare_split.specs.declared.reached.Point.{Point}
-use Rattle.hoare_split.specs.declared.reached.Reached.{Reached}
-use Rattle.hoare_split.specs.declared.rest.Rest.{Rest}
+use Rattle.hoare_triples.specs.declared.codes.Ending.{Ending}
+use Rattle.hoare_split.specs.declared.point.Point.{Point}
+use Rattle.hoare_triples.specs.declared.reached.Reached.{Reached}
+use Rattle.hoare_triples.specs.declared.rest.Rest.{Rest}
 use Rattle.hoare_split.specs.Picking.{is_awaited}
 use Rattle.hoare_split.specs.Settings.{settings}
 use Rattle.hoare_split.specs.Cuts.{at_assertion, at_call}
 use Rattle.hoare_split.specs.Flows.{Flow, ends, branches, after_items, arrivals_of, first_of_each, points_in, code_in}
 use Rattle.hoare_split.specs.Passages.{Passage, choice_of, choice, branch}
 use Rattle.hoare_split.specs.Statements.{passage_of, block_of}
-use Rattle.hoare_split.specs.Weights.{weight_of}
-use Rattle.hoare_split.specs.Following.{Reaches, GoesOn, flow_of, ending_flow}
+use Rattle.hoare_triples.specs.Weights.{weight_of}
+use Rattle.hoare_triples.specs.Following.{Reaches, GoesOn, flow_of, ending_flow}
 use Rattle.hoare_split.proofs.FlowLemmas.{AreAmong, AreAmong-first_of_each, code_in-more, code_in-branches}
 use Rattle.hoare_split.proofs.StatementLemmas.{passage-If, passage-While, passage-Split, passage-Call}
-use Rattle.hoare_split.proofs.WeightLemmas.{weight-If}
+use Rattle.hoare_triples.proofs.WeightLemmas.{weight-If}
 
 -- ---- a branch into two codes, the first of which was made first
 

@@ -7,13 +7,14 @@ use Rattle.store_exec.specs.declared.code.Item.{Item}
 use Rattle.pale_typed.specs.declared.typed.ProcEntry.{ProcEntry}
 use Rattle.pale_typed.specs.declared.typed.Stmt.{Stmt}
 use Rattle.hoare_split.specs.declared.caller.Caller.{Caller}
-use Rattle.hoare_split.specs.declared.rest.Rest.{Rest}
+use Rattle.hoare_triples.specs.declared.rest.Rest.{Rest}
 use Rattle.hoare_split.specs.Flows.{Flow, after_items}
 use Rattle.hoare_split.specs.Statements.{passage_of}
-use Rattle.hoare_split.specs.Weights.{weight_of, weight_behind}
-use Rattle.hoare_split.specs.Following.{procs_of, vars_of, block_in, flow_of, IsGone}
+use Rattle.hoare_triples.specs.Weights.{weight_of, weight_behind}
+use Rattle.hoare_split.specs.Callers.{procs_of, vars_of, block_in}
+use Rattle.hoare_triples.specs.Following.{flow_of, IsGone}
 use Rattle.hoare_split.proofs.PlainLemmas.{after_items-append, plain-statement}
-use Rattle.hoare_split.proofs.WeightLemmas.{weight-cons}
+use Rattle.hoare_triples.proofs.WeightLemmas.{weight-cons}
 
 -- without its first statement a block is no heavier
 pub lighter-more : (block more : List Stmt) (s : Stmt) (after : ℕ) → block ≡ s ∷ more →

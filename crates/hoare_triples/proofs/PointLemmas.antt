@@ -16,14 +16,14 @@ use Rattle.pale_typed.specs.declared.typed.CallParts.{CallParts}
 use Rattle.pale_typed.specs.declared.typed.ProcEntry.{ProcEntry}
 use Rattle.pale_typed.specs.declared.typed.Stmt.{Stmt}
 use Rattle.pale_typed.specs.declared.typed.Stmt.TheVariants as stmt
-use Rattle.hoare_split.specs.declared.reached.Point.{Point}
-use Rattle.hoare_split.specs.declared.reached.Reached.{Reached}
+use Rattle.hoare_split.specs.declared.point.Point.{Point}
+use Rattle.hoare_triples.specs.declared.reached.Reached.{Reached}
 use Rattle.hoare_split.specs.Flows.{Flow, ends, branches, after_items, arrivals_of, first_of_each, reached_by, points_in, cuts_in, cuts_of, code_in}
 use Rattle.hoare_split.specs.Cuts.{at_assertion}
 use Rattle.hoare_split.specs.Starts.{plain_start, call_start}
 use Rattle.hoare_split.specs.Passages.{Passage, Started, choice, choice_of}
 use Rattle.hoare_split.specs.Statements.{passage_of, block_of}
-use Rattle.hoare_split.specs.Following.{Reaches}
+use Rattle.hoare_triples.specs.Following.{Reaches}
 use Rattle.hoare_split.specs.Triples.{triple_of}
 use Rattle.hoare_split.proofs.StatementLemmas.{passage-Skip, passage-Do, passage-If, passage-While, passage-Split, passage-Call}
 use Rattle.hoare_split.proofs.PlainLemmas.{WhenPlain, plain-block}

@@ -4,10 +4,10 @@ use Rattle.std.proofs.Common.{OnOk, refl, sym, ap, ◌∙◌, append_assoc, appe
 use Rattle.std.specs.List.{position}
 use Rattle.std.proofs.lemmas.Bool.Decides.{nat_tests}
 use Rattle.std.proofs.lemmas.List.{map-append}
-use Rattle.hoare_split.specs.declared.reached.Point.{Point}
-use Rattle.hoare_split.specs.declared.reached.Reached.{Reached}
+use Rattle.hoare_split.specs.declared.point.Point.{Point}
+use Rattle.hoare_triples.specs.declared.reached.Reached.{Reached}
 use Rattle.hoare_split.specs.Flows.{Arrival, is_point, is_among, first_of_each, points_in, cuts_in, place_among}
-use Rattle.hoare_split.specs.Following.{Reaches}
+use Rattle.hoare_triples.specs.Following.{Reaches}
 use Rattle.hoare_split.proofs.FlowLemmas.{position-among, first_of_each-append}
 
 -- a point that isn't among others has no place there

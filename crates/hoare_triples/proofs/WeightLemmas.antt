@@ -7,7 +7,7 @@ use Rattle.pale_typed.specs.declared.typed.Stmt.{Stmt, roll-Stmt, out-Stmt, roll
 use Rattle.pale_typed.specs.declared.typed.Stmt.TheVariants as stmt
 use Rattle.pale_typed.specs.declared.typed.Stmt.TheOpen.{Stmt-F}
 use Rattle.pale_typed.specs.declared.typed.Stmt.TheFolds.{map-Stmt, fold-roll-Stmt}
-use Rattle.hoare_split.specs.Weights.{weight_rule, weight_of}
+use Rattle.hoare_triples.specs.Weights.{weight_rule, weight_of}
 
 weight-form : (s : Stmt) (x : Stmt-F Stmt) → s ≡ roll-Stmt x → weight_of s ≡ weight_rule (map-Stmt Stmt ℕ weight_of x)
 weight-form s x is = ap weight_of is ∙ fold-roll-Stmt ℕ weight_rule x

@@ -1,37 +1,16 @@
 -- What follows a place of the text, as it is kept while code is made, and what has been made so far.
 use Rattle.std.specs.Prelude.{◌≡◌, ◌≤◌, None, List, ◌++◌}
-use Rattle.store_core.specs.Tables.{VarEntry}
 use Rattle.store_exec.specs.declared.code.Item.{Item}
-use Rattle.pale_typed.specs.declared.typed.ProcEntry.{ProcEntry}
-use Rattle.pale_typed.specs.declared.typed.Stmt.{Stmt}
 use Rattle.hoare_split.specs.declared.caller.Caller.{Caller}
-use Rattle.hoare_split.specs.declared.codes.Ending.{Ending}
-use Rattle.hoare_split.specs.declared.codes.Ending.TheVariants as ending
-use Rattle.hoare_split.specs.declared.reached.Reached.{Reached}
-use Rattle.hoare_split.specs.declared.rest.Rest.{Rest, Exit, Again, Then'}
+use Rattle.hoare_triples.specs.declared.codes.Ending.{Ending}
+use Rattle.hoare_triples.specs.declared.codes.Ending.TheVariants as ending
+use Rattle.hoare_triples.specs.declared.reached.Reached.{Reached}
+use Rattle.hoare_triples.specs.declared.rest.Rest.{Rest, Exit, Again, Then'}
 use Rattle.hoare_split.specs.Flows.{Arrival, Flow, ends, after_items, first_of_each, points_in, cuts_in}
 use Rattle.hoare_split.specs.Cuts.{at_assertion}
-use Rattle.hoare_split.specs.Passages.{Passage}
-use Rattle.hoare_split.specs.Statements.{passage_of, block_of}
+use Rattle.hoare_split.specs.Callers.{vars_of, statement_in, block_in}
 use Rattle.hoare_split.specs.Triples.{exit_of}
-use Rattle.hoare_split.specs.Weights.{weight_behind, ending_weight}
-
--- ---- the caller
-
-abbrev pub procs_of : Caller → List ProcEntry
-procs_of caller = caller.program.now.procs
-
-abbrev pub vars_of : Caller → List VarEntry
-vars_of caller = caller.vars.now
-
-abbrev pub entry_of : Caller → ProcEntry
-entry_of caller = record { vars = caller.vars.now; proc = caller.proc.now }
-
-abbrev pub statement_in : Caller → Stmt → Passage
-statement_in caller s = passage_of (procs_of caller) (vars_of caller) s
-
-abbrev pub block_in : Caller → List Stmt → Passage
-block_in caller block = block_of (procs_of caller) (vars_of caller) block
+use Rattle.hoare_triples.specs.Weights.{weight_behind, ending_weight}
 
 -- ---- what follows
 

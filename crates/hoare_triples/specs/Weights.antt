@@ -3,9 +3,9 @@ use Rattle.std.specs.Prelude.{ℕ, ◌+◌, sum_by}
 use Rattle.pale_typed.specs.declared.typed.Stmt.{Stmt}
 use Rattle.pale_typed.specs.declared.typed.Stmt.TheOpen.{Stmt-F}
 use Rattle.pale_typed.specs.declared.typed.Stmt.TheFolds.{fold-Stmt}
-use Rattle.hoare_split.specs.declared.rest.Rest.{Rest, Exit, Again, Then'}
-use Rattle.hoare_split.specs.declared.codes.Ending.{Ending}
-use Rattle.hoare_split.specs.declared.codes.Ending.TheVariants as ending
+use Rattle.hoare_triples.specs.declared.rest.Rest.{Rest, Exit, Again, Then'}
+use Rattle.hoare_triples.specs.declared.codes.Ending.{Ending}
+use Rattle.hoare_triples.specs.declared.codes.Ending.TheVariants as ending
 
 abbrev pub weight_rule : Stmt-F ℕ → ℕ
 weight_rule Stmt-F.Skip = 1

@@ -5,13 +5,13 @@ ghost use Rattle.hoare_split.specs.Cuts.{at_assertion};
 ghost use Rattle.hoare_split.specs.Flows.{ends, branches};
 ghost use Rattle.hoare_split.specs.Starts as starts;
 ghost use Rattle.hoare_split.specs.Triples.{starts_of, triple_of};
-ghost use Rattle.hoare_split.specs.Following.{procs_of, entry_of, statement_in, block_in, flow_of};
+ghost use Rattle.hoare_split.specs.Callers.{procs_of, entry_of, statement_in, block_in};
+ghost use Rattle.hoare_triples.specs.Following.{flow_of};
 
-use crate::caller::Caller;
 use crate::codes::{branch, code_of};
 use crate::reached::Reached;
 use crate::rest::Rest;
-use crate::starts::{call_start, entry_start, plain_start};
+use hoare_split::{Caller, call_start, entry_start, plain_start};
 use pale_text::Pos;
 use pale_typed::{Stmt, StmtList};
 use plain_data::Items;

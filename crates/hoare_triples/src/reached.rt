@@ -3,31 +3,10 @@
 ghost use Rattle.std.specs.Prelude.{◌≡◌, [], ◌∷◌, ◌++◌, length, position, OnOk};
 ghost use Rattle.hoare_split.specs.Flows.{is_point};
 
-use pale_text::Pos;
+use hoare_split::Point;
 use plain_data::Items;
 use std::alloc::{AllocError, Global};
 use store_exec::{Cut, CutList};
-
-/// A cut point of a procedure at which code ends. One in the text is known by the place of its keyword.
-#[derive(Clone, Copy, Debug, PartialEq, Eq)]
-pub enum Point {
-    At(Pos),
-    Exit,
-}
-
-impl Point {
-    fn is(self, other: Point) -> bool
-        ensures { result ≡ is_point self other }
-    {
-        match (self, other) {
-            (Point::Exit, Point::Exit) => true,
-            (Point::At(place), Point::At(with)) => {
-                place.line == with.line && place.column == with.column
-            }
-            _ => false,
-        }
-    }
-}
 
 /// Cut points with what is checked there, each once, in the order in which they were first reached.
 #[derive(Drop)]

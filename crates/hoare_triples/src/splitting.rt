@@ -1,35 +1,16 @@
 //! The triples of a program.
 
-ghost use Rattle.std.specs.Prelude.{◌≡◌, None, slice_get, option_map, IfSome, IfOk, IfErr, OnOk, All};
+ghost use Rattle.std.specs.Prelude.{◌≡◌, None, IfOk, IfErr, OnOk, All};
 ghost use Rattle.pale_tables.specs.Faults.{IsStop};
 ghost use Rattle.pale_typed.specs.Fitting.{ProgramFits};
 ghost use Rattle.hoare_split.specs.Fitting.{FitsProgram, IsShort};
 ghost use Rattle.hoare_split.specs.Triples.{split_fault, triples_of};
-ghost use Rattle.hoare_split.specs.Following.{procs_of, entry_of};
 
-use crate::caller::Caller;
-use crate::laws::triples_of_programs_that_fit_fit;
-use crate::measuring::first_fault;
 use crate::points::{TripleList, split_procedure};
+use hoare_split::{caller_at, first_fault, triples_of_programs_that_fit_fit};
 use pale_text::TextStop;
 use pale_typed::Typed;
 use std::alloc::Global;
-
-/// A procedure of the program, with its variables; `None` exactly for an unknown one.
-pub fn caller_at(program: &Typed, number: u32) -> Option<Caller<'_>>
-    ensures entry { option_map entry_of result ≡ slice_get program.now.procs number }
-    ensures procs { IfSome result (λ caller. procs_of caller ≡ program.now.procs) }
-    ensures number { IfSome result (λ caller. caller.number ≡ number) }
-{
-    let vars = program.vars(number)?;
-    let proc = program.proc(number)?;
-    Some(Caller {
-        program,
-        number,
-        vars,
-        proc,
-    })
-}
 
 /// The triples of a typed program, those of its procedures in order, in each those of its cut points in order of the text. Those of a
 /// program that fits fit it.

@@ -2,15 +2,16 @@ use Rattle.std.proofs.Common.{◌≡◌, ◌≤◌, List, Option, is_some, IfOk,
 use Rattle.std.proofs.lemmas.Bool.{false≢true}
 use Rattle.store_exec.specs.declared.code.Code.{Code}
 use Rattle.store_exec.specs.declared.code.Item.{Item}
-use Rattle.hoare_split.specs.declared.codes.Ending.{Ending}
+use Rattle.hoare_triples.specs.declared.codes.Ending.{Ending}
 use Rattle.hoare_split.specs.Flows.{Arrival, Flow, after_items, arrivals_of, code_in}
-use Rattle.hoare_split.specs.Weights.{weight_behind, ending_weight}
-use Rattle.hoare_split.specs.Following.{Reaches, IsCutEnding, procs_of, vars_of, flow_of}
+use Rattle.hoare_triples.specs.Weights.{weight_behind, ending_weight}
+use Rattle.hoare_split.specs.Callers.{procs_of, vars_of}
+use Rattle.hoare_triples.specs.Following.{Reaches, IsCutEnding, flow_of}
 use Rattle.hoare_split.proofs.FlowLemmas.{arrivals_of-after_items}
-use Rattle.hoare_split.proofs.ReachLemmas.{Reaches-append, on_ok}
+use Rattle.hoare_triples.proofs.ReachLemmas.{Reaches-append, on_ok}
 use Rattle.hoare_split.proofs.StatementLemmas.{cut-plain}
-use Rattle.hoare_split.proofs.CodeLemmas.{code-branch, flow-If, flow-While, flow-Split, flow-Call, flow-to, lighter-If}
-use Rattle.hoare_split.proofs.codes.+codes.Goals as goal
+use Rattle.hoare_triples.proofs.CodeLemmas.{code-branch, flow-If, flow-While, flow-Split, flow-Call, flow-to, lighter-If}
+use Rattle.hoare_triples.proofs.codes.+codes.Goals as goal
 
 -- ---- branches
 

@@ -1,6 +1,6 @@
 use Rattle.std.proofs.Common.{◌+◌, ◌*◌, max}
-use Rattle.hoare_split.specs.Weights.{weight_of, weight_behind}
-use Rattle.hoare_split.proofs.codes.+codes.Given as goal
+use Rattle.hoare_triples.specs.Weights.{weight_of, weight_behind}
+use Rattle.hoare_triples.proofs.codes.+codes.Given as goal
 
 abbrev pub decreases-branch : goal.decreases-branch
 decreases-branch l = 3 * max (weight_behind l.taken) (weight_behind l.other) + 3

@@ -3,7 +3,7 @@ use Rattle.store_exec.specs.declared.code.Tail.TheVariants as tail
 use Rattle.store_exec.specs.declared.code.Code.{roll-Code}
 use Rattle.hoare_split.specs.Flows.{place_among}
 use Rattle.hoare_split.proofs.FlowLemmas.{position-among, code_in-ends}
-use Rattle.hoare_split.proofs.codes.code_ending.Goals as goal
+use Rattle.hoare_triples.proofs.codes.code_ending.Goals as goal
 
 pub unwrap-place-requires : goal.unwrap-place-requires
 unwrap-place-requires c = subst (λ (o : Option ℕ). IsSome o) (sym (c.find.ensures ∙ position-among c.args.point c.args.reached.now.points c.requires)) refl

@@ -1,12 +1,12 @@
 use Rattle.std.proofs.Common.{◌++◌, [], ◌∷◌, sym, ap, ◌∙◌, subst}
-use Rattle.hoare_split.specs.declared.reached.Reached.{Reached}
+use Rattle.hoare_triples.specs.declared.reached.Reached.{Reached}
 use Rattle.hoare_split.specs.Flows.{Arrival, is_among}
 use Rattle.hoare_split.specs.Cuts.{plain_cut}
-use Rattle.hoare_split.specs.Following.{Reaches}
+use Rattle.hoare_triples.specs.Following.{Reaches}
 use Rattle.hoare_split.proofs.FlowLemmas.{is_among-last}
-use Rattle.hoare_split.proofs.ReachLemmas.{among-found, among-unfound, Reaches-old, Reaches-new, on_ok}
-use Rattle.hoare_split.proofs.codes.code_to.Goals as goal
-use Rattle.hoare_split.proofs.codes.code_to.Goals.{then-is_none+in_ok-cut+in_ok-add, else-is_none}
+use Rattle.hoare_triples.proofs.ReachLemmas.{among-found, among-unfound, Reaches-old, Reaches-new, on_ok}
+use Rattle.hoare_triples.proofs.codes.code_to.Goals as goal
+use Rattle.hoare_triples.proofs.codes.code_to.Goals.{then-is_none+in_ok-cut+in_ok-add, else-is_none}
 
 pub code_ending-requires : goal.code_ending-requires
 code_ending-requires c =

@@ -4,10 +4,11 @@ use Rattle.hoare_split.specs.Picking.{is_left}
 use Rattle.hoare_split.specs.Settings.{settings}
 use Rattle.hoare_split.specs.Cuts.{at_exit}
 use Rattle.hoare_split.specs.Flows.{Arrival, Flow, ends, after_items, code_in}
-use Rattle.hoare_split.specs.Following.{Reaches, vars_of}
+use Rattle.hoare_split.specs.Callers.{vars_of}
+use Rattle.hoare_triples.specs.Following.{Reaches}
 use Rattle.hoare_split.proofs.FlowLemmas.{arrivals_of-after_items}
 use Rattle.hoare_split.proofs.PlainLemmas.{after_items-append}
-use Rattle.hoare_split.proofs.codes.code_to_exit.Goals as goal
+use Rattle.hoare_triples.proofs.codes.code_to_exit.Goals as goal
 
 pub returns-clause-code : goal.returns-clause-code
 returns-clause-code c =

@@ -1,11 +1,12 @@
 use Rattle.std.proofs.Common.{◌≡◌, ℕ, ◌+◌, ◌≤◌, ◌∷◌, List, refl, sym, ap, ◌∙◌, subst}
 use Rattle.std.specs.List.{sum_by}
 use Rattle.pale_typed.specs.declared.typed.Stmt.{Stmt}
-use Rattle.hoare_split.specs.Weights.{weight_of, weight_behind}
-use Rattle.hoare_split.specs.Following.{block_in, flow_of}
+use Rattle.hoare_triples.specs.Weights.{weight_of, weight_behind}
+use Rattle.hoare_split.specs.Callers.{block_in}
+use Rattle.hoare_triples.specs.Following.{flow_of}
 use Rattle.hoare_split.proofs.StatementLemmas.{not-false}
-use Rattle.hoare_split.proofs.FollowingLemmas.{gone-statement, lighter-more}
-use Rattle.hoare_split.proofs.codes.push_items.Goals as goal
+use Rattle.hoare_triples.proofs.FollowingLemmas.{gone-statement, lighter-more}
+use Rattle.hoare_triples.proofs.codes.push_items.Goals as goal
 
 pub loop-left-preserved : goal.loop-left-preserved
 loop-left-preserved c =

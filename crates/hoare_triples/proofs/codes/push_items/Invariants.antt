@@ -1,6 +1,6 @@
-use Rattle.hoare_split.specs.Weights.{weight_behind}
-use Rattle.hoare_split.specs.Following.{IsGone}
-use Rattle.hoare_split.proofs.codes.push_items.Given as goal
+use Rattle.hoare_triples.specs.Weights.{weight_behind}
+use Rattle.hoare_triples.specs.Following.{IsGone}
+use Rattle.hoare_triples.proofs.codes.push_items.Given as goal
 
 abbrev pub invariant-loop-left : goal.invariant-loop-left
 invariant-loop-left l = IsGone l.initial.items l.items l.initial.left l.left

@@ -4,11 +4,12 @@ use Rattle.hoare_split.specs.Passages.{Started}
 use Rattle.hoare_split.specs.Cuts.{at_assertion}
 use Rattle.hoare_split.specs.Flows.{ends}
 use Rattle.hoare_split.specs.Starts.{plain_start, call_start}
-use Rattle.hoare_split.specs.Following.{procs_of, vars_of, block_in, flow_of}
+use Rattle.hoare_split.specs.Callers.{procs_of, vars_of, block_in}
+use Rattle.hoare_triples.specs.Following.{flow_of}
 use Rattle.hoare_split.specs.Triples.{triple_of}
-use Rattle.hoare_split.proofs.PointLemmas.{starts-plain, starts-If, starts-While, starts-Split, starts-Call, loop_start}
-use Rattle.hoare_split.proofs.PointLemmas.{added-more, added-one, added-none, added-first, on_ok_then, split-whole, split-next}
-use Rattle.hoare_split.proofs.points.+points.Goals as goal
+use Rattle.hoare_triples.proofs.PointLemmas.{starts-plain, starts-If, starts-While, starts-Split, starts-Call, loop_start}
+use Rattle.hoare_triples.proofs.PointLemmas.{added-more, added-one, added-none, added-first, on_ok_then, split-whole, split-next}
+use Rattle.hoare_triples.proofs.points.+points.Goals as goal
 
 pub split_stmt-returns-in-Skip : goal.split_stmt-returns-in-Skip
 split_stmt-returns-in-Skip t c =

@@ -1,8 +1,9 @@
 use Rattle.std.proofs.Common.{length}
-use Rattle.hoare_split.specs.Following.{procs_of, vars_of, flow_of}
+use Rattle.hoare_split.specs.Callers.{procs_of, vars_of}
+use Rattle.hoare_triples.specs.Following.{flow_of}
 use Rattle.hoare_split.specs.Triples.{triple_of}
-use Rattle.hoare_split.proofs.PointLemmas.{IsSplit}
-use Rattle.hoare_split.proofs.points.+points.Given as goal
+use Rattle.hoare_triples.proofs.PointLemmas.{IsSplit}
+use Rattle.hoare_triples.proofs.points.+points.Given as goal
 
 -- the triples so far, and those of the statements that are left
 abbrev pub invariant-split_block-loop-stmt : goal.invariant-split_block-loop-stmt

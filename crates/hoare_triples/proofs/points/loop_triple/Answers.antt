@@ -3,9 +3,10 @@ use Rattle.pale_typed.specs.declared.typed.Stmt.{Stmt}
 use Rattle.hoare_split.specs.Cuts.{at_assertion}
 use Rattle.hoare_split.specs.Flows.{Flow, ends, branches, arrivals_of}
 use Rattle.hoare_split.specs.Starts.{plain_start}
-use Rattle.hoare_split.specs.Following.{Reaches, block_in, flow_of}
-use Rattle.hoare_split.proofs.PointLemmas.{triple-made, code-behind_none}
-use Rattle.hoare_split.proofs.points.loop_triple.Goals as goal
+use Rattle.hoare_split.specs.Callers.{block_in}
+use Rattle.hoare_triples.specs.Following.{Reaches, flow_of}
+use Rattle.hoare_triples.proofs.PointLemmas.{triple-made, code-behind_none}
+use Rattle.hoare_triples.proofs.points.loop_triple.Goals as goal
 
 pub returns : goal.returns
 returns c =

@@ -3,10 +3,10 @@ use Rattle.pale_typed.specs.declared.typed.Stmt.{Stmt}
 use Rattle.store_exec.specs.declared.triple.Start.{Start}
 use Rattle.hoare_split.specs.Passages.{Started}
 use Rattle.hoare_split.specs.Starts.{entry_start}
-use Rattle.hoare_split.specs.Following.{vars_of, block_in}
+use Rattle.hoare_split.specs.Callers.{vars_of, block_in}
 use Rattle.hoare_split.specs.Triples.{exit_of, triple_of}
-use Rattle.hoare_split.proofs.PointLemmas.{added-first, on_ok_then}
-use Rattle.hoare_split.proofs.points.split_procedure.Goals as goal
+use Rattle.hoare_triples.proofs.PointLemmas.{added-first, on_ok_then}
+use Rattle.hoare_triples.proofs.points.split_procedure.Goals as goal
 
 pub returns : goal.returns
 returns c =

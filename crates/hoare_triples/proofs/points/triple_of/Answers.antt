@@ -1,7 +1,7 @@
 use Rattle.std.proofs.Common.{refl}
-use Rattle.hoare_split.specs.Following.{flow_of}
-use Rattle.hoare_split.proofs.PointLemmas.{triple-made}
-use Rattle.hoare_split.proofs.points.triple_of.Goals as goal
+use Rattle.hoare_triples.specs.Following.{flow_of}
+use Rattle.hoare_triples.proofs.PointLemmas.{triple-made}
+use Rattle.hoare_triples.proofs.points.triple_of.Goals as goal
 
 pub returns : goal.returns
 returns c = triple-made c.args.caller.now.number c.args.place.line c.args.place c.args.start c.args.start (flow_of c.args.caller.now c.args.rest)

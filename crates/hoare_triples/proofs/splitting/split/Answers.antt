@@ -1,9 +1,9 @@
 use Rattle.std.proofs.Common.{◌++◌, map, option_map, sym, ap, ap₂, ◌∙◌, subst, All}
 use Rattle.hoare_split.specs.Triples.{starts_of, triple_of, procedure_fault}
-use Rattle.hoare_split.specs.Following.{entry_of}
+use Rattle.hoare_split.specs.Callers.{entry_of}
 use Rattle.hoare_split.specs.Fitting.{FitsProgram, IsShort}
-use Rattle.hoare_split.proofs.SplittingLemmas.{split-none, split-last, split-fault, split-one}
-use Rattle.hoare_split.proofs.splitting.split.Goals as goal
+use Rattle.hoare_triples.proofs.SplittingLemmas.{split-none, split-last, split-fault, split-one}
+use Rattle.hoare_triples.proofs.splitting.split.Goals as goal
 
 pub loop-number-init : goal.loop-number-init
 loop-number-init c = split-none c.args.t.now c.new-triples.result c.new-triples.ensures

@@ -1,5 +1,5 @@
-use Rattle.hoare_split.proofs.SplittingLemmas.{SplitUpto}
-use Rattle.hoare_split.proofs.splitting.split.Given as goal
+use Rattle.hoare_triples.proofs.SplittingLemmas.{SplitUpto}
+use Rattle.hoare_triples.proofs.splitting.split.Given as goal
 
 -- the procedures before this one have no fault, and their triples are there
 abbrev pub invariant-loop-number : goal.invariant-loop-number
