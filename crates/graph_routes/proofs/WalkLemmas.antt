@@ -10,7 +10,7 @@ use Rattle.store_core.specs.Tables.{TypeEntry}
 use Rattle.ws2s_core.specs.declared.formula.Formula.{Formula}
 use Rattle.graph_view.specs.Sights.{Sight}
 use Rattle.graph_view.specs.Routes.{Naming, Joining, walk_rules, walk_by}
-use Rattle.graph_type.specs.Legs.{Part, Parts, parts_of, parts_of_node, applied, run_on}
+use Rattle.graph_routes.specs.Legs.{Part, Parts, parts_of, parts_of_node, applied, run_on}
 
 module _ (types : List TypeEntry) (sight : Sight) (names : Naming) (followed : FieldKind → Bool) where
   abbrev by : Route-F Joining → Joining

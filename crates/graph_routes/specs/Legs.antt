@@ -9,7 +9,7 @@ use Rattle.store_core.specs.Postfix.{Form, form_of, without_parts, form_count}
 use Rattle.ws2s_core.specs.declared.formula.Formula.{Formula}
 use Rattle.graph_view.specs.Routes.{Joining}
 use Rattle.graph_cells.specs.Given.{given}
-use Rattle.graph_type.specs.declared.legs.Leg.{Leg}
+use Rattle.graph_routes.specs.declared.legs.Leg.{Leg}
 
 -- a form of a route, the first track that it may bind, and the tracks that it joins
 pub record Part : Type 0 where

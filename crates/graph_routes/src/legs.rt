@@ -3,7 +3,7 @@
 ghost use Rattle.std.specs.Prelude.{◌≡◌, ◌++◌, IfOk, OnOk, map};
 ghost use Rattle.store_core.specs.declared.kind.Route.{out-Route};
 ghost use Rattle.store_core.specs.declared.kind.Route.TheOpen.{Route-F};
-ghost use Rattle.graph_type.specs.Legs.{part_of, parts_of, span_of, spans_in};
+ghost use Rattle.graph_routes.specs.Legs.{part_of, parts_of, span_of, spans_in};
 
 use std::alloc::{AllocError, Global};
 use store_core::Route;

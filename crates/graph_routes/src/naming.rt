@@ -5,7 +5,7 @@ ghost use Rattle.graph_view.specs.Routes as formulas;
 ghost use Rattle.graph_view.specs.Routes.{walk_rules};
 ghost use Rattle.graph_view.specs.Fields.{is_data};
 ghost use Rattle.graph_view.specs.Sights.{var_slots, at_first, sight_of};
-ghost use Rattle.graph_type.specs.Legs.{part_of, applied};
+ghost use Rattle.graph_routes.specs.Legs.{part_of, applied};
 
 use crate::legs::{Leg, in_postfix};
 use graph_cells::{

@@ -1,12 +1,11 @@
--- Acts, step by step.
-use Rattle.std.proofs.Common.{◌≡◌, ℕ, suc, ◌+◌, ◌==◌, Bool, true, List, [], ◌∷◌, ◌++◌, Some, Result, Ok, Err, OnOk, length, if◌then◌else◌}
+-- Assignments and `free`, step by step.
+use Rattle.std.proofs.Common.{◌≡◌, ℕ, suc, ◌+◌, List, [], ◌∷◌, ◌++◌, length}
 use Rattle.std.proofs.Common.{refl, sym, ap, ap₂, ◌∙◌, subst, add-one}
 use Rattle.store_core.specs.declared.ids.FieldId.{FieldId}
 use Rattle.store_core.specs.declared.ids.VariantId.{VariantId}
 use Rattle.store_core.specs.declared.ids.VarId.{VarId}
 use Rattle.store_core.specs.Tables.{TypeEntry, VarEntry}
 use Rattle.store_logic.specs.declared.act.Rhs.{Rhs}
-use Rattle.store_logic.specs.declared.assertion.Assertion.{Assertion}
 use Rattle.store_exec.specs.declared.cause.Cause.TheVariants as cause
 use Rattle.ws2s_core.specs.declared.track.Track.{Track}
 use Rattle.ws2s_core.specs.declared.formula.Formula.{Formula}
@@ -16,32 +15,16 @@ use Rattle.tree_encode.specs.Tracks.{track_count}
 use Rattle.graph_view.specs.declared.view.Sym.{Sym}
 use Rattle.graph_view.specs.declared.view.Sym.TheVariants.{At}
 use Rattle.graph_view.specs.declared.view.Event.TheVariants as event
-use Rattle.graph_view.specs.declared.view.View.{View}
 use Rattle.graph_view.specs.Sights.{sight_of, var_slots}
 use Rattle.graph_view.specs.Syms as syms
 use Rattle.graph_view.specs.Live.{is_dead}
 use Rattle.site_list.specs.States.{Text, State, Got, guard, check, sight, value_of, with_value, happens, is_truth_of}
 use Rattle.site_list.specs.Reading.{check_access, read, read_along}
-use Rattle.site_list.specs.Claims.{assertion}
-use Rattle.site_list.specs.Acts.{made_truth, made_cell, evaluated, write_field, write_along, assigned, freed, asserted}
-use Rattle.pred_transform.specs.declared.walker.Walker.{Walker}
-use Rattle.pred_transform.specs.Shown.{shown, checked, defining, happening, valued}
-use Rattle.pred_transform.proofs.ShownLemmas.{step-checked, make-made, happening-shown}
-use Rattle.pred_transform.proofs.PlaceLemmas.{access-keeps}
-
--- another fact of what comes out
-pub on_ok_then : {A E P Q : Type 0} (r : Result A E) → (P → Q) → OnOk r P → OnOk r Q
-on_ok_then (Ok x) f h = f h
-on_ok_then (Err e) f h = tt
-
--- the place that is wanted was passed, and its formula is kept
-pub place-found : (w0 w1 w2 : Walker) (here : Bool) (reached formula : Formula) (says : View → Formula) → here ≡ true →
-    (here ≡ (w0.passed == w0.wanted)) × (w1 ≡ record w0 { passed = w0.passed + 1 }) → formula ≡ says w1.view →
-    w2 ≡ record w1 { found = Some (And reached formula) } → w2 ≡ checked reached (says w0.view) w0
-place-found w0 w1 w2 here reached formula says is passes made found =
-    found ∙ ap (λ (f : Formula). record w1 { found = Some (And reached f) }) made
-    ∙ ap (λ (w : Walker). record w { found = Some (And reached (says w.view)) }) passes.1
-    ∙ ap (λ (b : Bool). record w0 { passed = w0.passed + 1; found = if b then Some (And reached (says w0.view)) else w0.found }) (sym is ∙ passes.0)
+use Rattle.site_list.specs.Acts.{made_truth, made_cell, evaluated, write_field, write_along, assigned, freed}
+use Rattle.symbolic_steps.specs.declared.walker.Walker.{Walker}
+use Rattle.symbolic_steps.specs.Shown.{shown, checked, defining, happening, valued}
+use Rattle.symbolic_steps.proofs.ShownLemmas.{step-checked, make-made, happening-shown}
+use Rattle.symbolic_steps.proofs.PlaceLemmas.{access-keeps}
 
 module _ (types : List TypeEntry) (vars : List VarEntry) (next wanted : ℕ) where
   -- a truth value on a track
@@ -119,7 +102,7 @@ module _ (types : List TypeEntry) (vars : List VarEntry) (next wanted : ℕ) whe
   assigned-last line v [] f x s = refl
   assigned-last line v (g ∷ before) f x s = written-last line g before f x (guard s) (value_of s.values v, s) refl
 
-  -- ---- `free` and `assert`
+  -- ---- `free`
 
   pub cell-freed : (line : ℕ) (s : State) (w0 w1 w2 w3 : Walker) (u : Sym) (reached : Formula) → reached ≡ guard s next → w0 ≡ shown next wanted s →
       w1 ≡ checked reached (syms.is_null w0.view.next u) w0 →
@@ -135,12 +118,6 @@ module _ (types : List TypeEntry) (vars : List VarEntry) (next wanted : ℕ) whe
       happening-shown next wanted (check line (guard s) cause.DoubleFree (λ n. is_dead types (sight vars s) n u)
       (check line (guard s) cause.Null (λ n. syms.is_null n u) s)) w2 w3 (event.Free s.guard u) second
       (three ∙ ap (λ (w : Walker). happening (event.Free w.guard u) w2) second)
-
-  pub assertion-checked : (line : ℕ) (s : State) (w0 w1 : Walker) (a : Assertion) (reached : Formula) → reached ≡ guard s next → w0 ≡ shown next wanted s →
-      w1 ≡ checked reached (Not (assertion types (sight_of vars w0.view) w0.view.vars a w0.view.next)) w0 →
-      w1 ≡ shown next wanted (asserted types vars line a s)
-  assertion-checked line s w0 w1 a reached reaches is made =
-      step-checked vars next wanted line cause.Assert (guard s) s w0 w1 reached (λ seen values n. Not (assertion types seen values a n)) reaches is made
 
   -- the last field of a place gets what is evaluated
   pub field-assigned : (line : ℕ) (v : VarId) (before : List FieldId) (f : FieldId) (x : Rhs) (s : State) (w0 w1 w2 w3 : Walker) (first cell found : Sym) →

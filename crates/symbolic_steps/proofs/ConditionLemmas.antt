@@ -18,9 +18,9 @@ use Rattle.graph_view.specs.Syms.{is_same}
 use Rattle.site_list.specs.States.{Text, State, Got, both, fails, sight}
 use Rattle.site_list.specs.Reading.{check_cell, path_value, operand_value, path_truth, is_of_variant}
 use Rattle.site_list.specs.Conditions.{Telling, told_variant, then_same, told_not, then_and, then_or, cond_rule, condition}
-use Rattle.pred_transform.specs.declared.walker.Walker.{Walker}
-use Rattle.pred_transform.specs.Shown.{shown, Tells}
-use Rattle.pred_transform.proofs.ShownLemmas.{seen-shown}
+use Rattle.symbolic_steps.specs.declared.walker.Walker.{Walker}
+use Rattle.symbolic_steps.specs.Shown.{shown, Tells}
+use Rattle.symbolic_steps.proofs.ShownLemmas.{seen-shown}
 
 module _ (types : List TypeEntry) (vars : List VarEntry) (line next wanted : ℕ) (text : Text) (s : State) where
   pub variant-told : (got : Got) (w1 w2 : Walker) (v : VariantId) (cell : Sym) (formula : Formula) → cell ≡ got.0 → w1 ≡ shown next wanted (got.1) →

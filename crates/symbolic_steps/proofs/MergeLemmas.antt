@@ -7,8 +7,8 @@ use Rattle.graph_view.specs.declared.view.Sym.{Sym}
 use Rattle.graph_view.specs.declared.view.Sym.TheVariants.{At}
 use Rattle.site_list.specs.States.{State, Got, next_track, define, make}
 use Rattle.site_list.specs.Codes.{Merging, behind, is_sym, is_merged, merged}
-use Rattle.pred_transform.specs.declared.walker.Walker.{Walker}
-use Rattle.pred_transform.specs.Shown.{shown, merged_value}
+use Rattle.symbolic_steps.specs.declared.walker.Walker.{Walker}
+use Rattle.symbolic_steps.specs.Shown.{shown, merged_value}
 
 -- values before those that are still to be merged
 abbrev pub front : List Sym → Merging → Merging

@@ -13,9 +13,9 @@ use Rattle.graph_view.specs.Syms.{is_null}
 use Rattle.graph_view.specs.Live.{is_dead}
 use Rattle.site_list.specs.States.{Text, State, check, sight}
 use Rattle.site_list.specs.Reading.{lacks, check_cell, check_access}
-use Rattle.pred_transform.specs.declared.walker.Walker.{Walker}
-use Rattle.pred_transform.specs.Shown.{shown, checked}
-use Rattle.pred_transform.proofs.ShownLemmas.{step-checked}
+use Rattle.symbolic_steps.specs.declared.walker.Walker.{Walker}
+use Rattle.symbolic_steps.specs.Shown.{shown, checked}
+use Rattle.symbolic_steps.proofs.ShownLemmas.{step-checked}
 
 -- by the variant that has the field
 abbrev owned : List TypeEntry → List VarEntry → ℕ → Text → FieldId → Sym → State → Option VariantId → State

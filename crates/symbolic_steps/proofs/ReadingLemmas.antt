@@ -17,10 +17,10 @@ use Rattle.graph_view.specs.Sights.{sight_of}
 use Rattle.store_core.specs.declared.ids.VarId.{VarId}
 use Rattle.site_list.specs.States.{Text, State, Got, sight, value_of}
 use Rattle.site_list.specs.Reading.{check_access, is_read, read, read_along, path_value, operand_value, truth_along, truth_at, Told}
-use Rattle.pred_transform.specs.declared.walker.Walker.{Walker}
-use Rattle.pred_transform.specs.Shown.{shown, defining}
-use Rattle.pred_transform.proofs.ShownLemmas.{seen-shown, make-made}
-use Rattle.pred_transform.proofs.PlaceLemmas.{access-keeps}
+use Rattle.symbolic_steps.specs.declared.walker.Walker.{Walker}
+use Rattle.symbolic_steps.specs.Shown.{shown, defining}
+use Rattle.symbolic_steps.proofs.ShownLemmas.{seen-shown, make-made}
+use Rattle.symbolic_steps.proofs.PlaceLemmas.{access-keeps}
 
 module _ (types : List TypeEntry) (vars : List VarEntry) (line next wanted : ℕ) (text : Text) where
   -- a field more is read

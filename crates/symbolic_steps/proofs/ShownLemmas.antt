@@ -15,8 +15,8 @@ use Rattle.tree_encode.specs.Tracks.{track_count}
 use Rattle.graph_view.specs.declared.view.Event.{Event}
 use Rattle.graph_view.specs.Syms as syms
 use Rattle.site_list.specs.States.{Text, Check, State, check, define, sight, make, next_track, happens, guard}
-use Rattle.pred_transform.specs.declared.walker.Walker.{Walker}
-use Rattle.pred_transform.specs.Shown.{place_formula, shown, checked, defining, happening}
+use Rattle.symbolic_steps.specs.declared.walker.Walker.{Walker}
+use Rattle.symbolic_steps.specs.Shown.{place_formula, shown, checked, defining, happening}
 
 -- ---- the store there
 

@@ -1,22 +1,17 @@
 -- What a walk keeps of how far it has come: formulas whose quantifiers bind tracks from `next` on, and of all places the one that is
 -- wanted.
-use Rattle.std.specs.Prelude.{◌≡◌, ℕ, ◌+◌, ◌==◌, List, [], ◌∷◌, ◌++◌, length, map, reverse, slice_get, slice_set, Option, Some, None, if◌then◌else◌}
+use Rattle.std.specs.Prelude.{◌≡◌, ℕ, ◌+◌, ◌==◌, List, [], ◌∷◌, ◌++◌, length, map, reverse, slice_get, slice_set, Some, None, if◌then◌else◌}
 use Rattle.std.specs.Prelude.{option_map}
 use Rattle.ws2s_core.specs.declared.formula.Formula.{Formula}
 use Rattle.ws2s_core.specs.declared.formula.Formula.TheVariants.{And}
 use Rattle.store_core.specs.declared.ids.VarId.{VarId}
 use Rattle.store_core.specs.Tables.{TypeEntry, VarEntry}
-use Rattle.ws2s_core.specs.declared.track.Track.{Track}
-use Rattle.ws2s_forms.specs.Forms.{and_list}
-use Rattle.store_exec.specs.declared.triple.Claim.{Claim}
-use Rattle.graph_view.specs.Sights.{Sight}
-use Rattle.site_list.specs.Claims.{claim}
 use Rattle.graph_view.specs.declared.view.Sym.{Sym}
 use Rattle.graph_view.specs.declared.view.Event.{Event}
 use Rattle.site_list.specs.States.{Text, Check, State, Got, make}
 use Rattle.site_list.specs.Reading.{Told}
 use Rattle.site_list.specs.Codes.{is_sym, is_merged}
-use Rattle.pred_transform.specs.declared.walker.Walker.{Walker}
+use Rattle.symbolic_steps.specs.declared.walker.Walker.{Walker}
 
 -- the place is reached, and its condition holds
 abbrev pub place_formula : ℕ → Check → Formula
@@ -57,25 +52,9 @@ happening event w = record w { view = record w.view { events = w.view.events ++ 
 abbrev pub valued : VarId → Sym → Walker → Walker
 valued v value w = record w { view = record w.view { vars = slice_set w.view.vars v.0 value } }
 
--- another guard
-abbrev pub with_guard : Option Track → Walker → Walker
-with_guard guard w = record w { guard = guard }
-
--- other values of the variables
-abbrev pub with_values : List Sym → Walker → Walker
-with_values values w = record w { view = record w.view { vars = values } }
-
--- other changes of the heap before
-abbrev pub with_events : List Event → Walker → Walker
-with_events events w = record w { view = record w.view { events = events } }
-
 -- what stands for a variable after both ways, and how far the walk has come then
 abbrev pub merged_value : List TypeEntry → List VarEntry → ℕ → Sym → Sym → State → Got
 merged_value types vars h u w s = if is_sym u w then (u, s) else make types vars (is_merged h u w) s
-
--- all claims hold on the store that is seen
-abbrev pub claims_hold : List TypeEntry → Sight → List Sym → Option Track → List Claim → Text
-claims_hold types sight values part asserts next = and_list next (map (λ c. claim types sight values part c next) asserts)
 
 -- ---- parts of a walk
 

@@ -1,28 +1,22 @@
-//! Acts of code: where they can fail, and what they lead to.
+//! Assignments and `free`: where they can fail, and what they lead to.
 
 ghost use Rattle.std.specs.Prelude.{◌≡◌, ◌++◌, ◌∷◌, [], ℕ, false, IfOk, OnOk};
 ghost use Rattle.std.specs.Option.{option_map_or};
 ghost use Rattle.store_core.specs.Tables.{var_at};
 ghost use Rattle.tree_encode.specs.Counting.{is_data_var};
 ghost use Rattle.graph_view.specs.Sights as sights;
-ghost use Rattle.graph_view.specs.Sights.{sight_of};
-ghost use Rattle.ws2s_core.specs.declared.formula.Formula.TheVariants.{Not};
-ghost use Rattle.site_list.specs.Claims as claims;
 ghost use Rattle.site_list.specs.Acts as acts;
-ghost use Rattle.pred_transform.specs.Shown.{checked, Leads, Gets, Makes};
+ghost use Rattle.symbolic_steps.specs.Shown.{Leads, Gets, Makes};
 
 use crate::conditions::condition;
 use crate::places::{check_access, check_dead, check_null};
 use crate::reading::{operand_value, read_along};
 use crate::seeing::is_truth_of;
-use crate::walker::{
-    Walker, define, find, happens, next_track, passes, reached, set_value, value_of,
-};
-use claim_formula::assertion_formula;
+use crate::walker::{Walker, define, happens, next_track, reached, set_value, value_of};
 use graph_view::{Event, Sym};
 use std::alloc::{AllocError, Global};
 use store_core::{FieldId, VarId, VarKind, VarTable, VariantId};
-use store_logic::{Act, Assertion, Path, Rhs};
+use store_logic::{Path, Rhs};
 use tree_encode::Layout;
 use ws2s_core::Formula;
 use ws2s_forms::{later, slot};
@@ -48,7 +42,11 @@ fn var_slots(vars: &VarTable) -> u32
 }
 
 /// A truth value on a track.
-pub(crate) fn made_truth(
+///
+/// # Errors
+///
+/// Want of memory, also where there are not as many tracks.
+pub fn made_truth(
     alloc: Global,
     l: &Layout<'_>,
     w: &mut Walker,
@@ -156,7 +154,11 @@ fn assign_field(
 }
 
 /// `p = e;`
-fn assign(
+///
+/// # Errors
+///
+/// Want of memory, also where there are not as many tracks.
+pub fn assign(
     alloc: Global,
     l: &Layout<'_>,
     w: &mut Walker,
@@ -179,7 +181,11 @@ fn assign(
 }
 
 /// `free x;`
-fn free(alloc: Global, l: &Layout<'_>, w: &mut Walker, v: VarId) -> Result<(), AllocError>
+///
+/// # Errors
+///
+/// Want of memory, also where there are not as many tracks.
+pub fn free(alloc: Global, l: &Layout<'_>, w: &mut Walker, v: VarId) -> Result<(), AllocError>
     ensures { OnOk result ((line : ℕ) → Leads w.old w.new (acts.act_rule l.now.types l.now.vars line (Act.Free v))) }
 {
     let cell = value_of(w.view.vars.as_slice(), v);
@@ -189,61 +195,4 @@ fn free(alloc: Global, l: &Layout<'_>, w: &mut Walker, v: VarId) -> Result<(), A
     let event = Event::Free(w.guard, cell);
     happens(w, event)?;
     Ok(())
-}
-
-/// The assertion is false.
-fn check_assertion(
-    alloc: Global,
-    l: &Layout<'_>,
-    w: &mut Walker,
-    reached: &Formula,
-    assertion: &Assertion,
-) -> Result<(), AllocError>
-    ensures { OnOk result (w.new ≡ checked reached.now
-        (Not (claims.assertion l.now.types (sight_of l.now.vars w.old.view) w.old.view.vars assertion.now w.old.view.next)) w.old) }
-{
-    if !passes(w)? {
-        return Ok(());
-    }
-    let holds = assertion_formula(alloc, l, &w.view, w.view.next, assertion)?;
-    find(alloc, w, reached, Formula::not(alloc, holds)?)
-}
-
-/// `assert [A];`
-fn assert(
-    alloc: Global,
-    l: &Layout<'_>,
-    w: &mut Walker,
-    assertion: &Assertion,
-) -> Result<(), AllocError>
-    ensures { OnOk result ((line : ℕ) → Leads w.old w.new (acts.asserted l.now.types l.now.vars line assertion.now)) }
-{
-    let here = reached(alloc, w)?;
-    check_assertion(alloc, l, w, &here, assertion)?;
-    Ok(())
-}
-
-/// One step of code.
-pub(crate) fn act(
-    alloc: Global,
-    l: &Layout<'_>,
-    w: &mut Walker,
-    act: &Act,
-) -> Result<(), AllocError>
-    ensures { OnOk result ((line : ℕ) → Leads w.old w.new (acts.act_rule l.now.types l.now.vars line act.now)) }
-{
-    match act {
-        Act::Assign(place, value) => {
-            assign(alloc, l, w, place, value)?;
-            Ok(())
-        }
-        Act::Free(v) => {
-            free(alloc, l, w, *v)?;
-            Ok(())
-        }
-        Act::Assert(assertion) => {
-            assert(alloc, l, w, assertion)?;
-            Ok(())
-        }
-    }
 }

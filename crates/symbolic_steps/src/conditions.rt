@@ -3,13 +3,13 @@
 ghost use Rattle.std.specs.Prelude.{◌≡◌, ℕ, IfOk};
 ghost use Rattle.site_list.specs.Conditions as conditions;
 ghost use Rattle.site_list.specs.Reading as readings;
-ghost use Rattle.pred_transform.specs.Shown.{Tells};
+ghost use Rattle.symbolic_steps.specs.Shown.{Tells};
 
 use crate::places::check_cell;
 use crate::reading::{operand_value, path_truth, path_value};
 use crate::seeing::{both, but_not, is_of_variant};
 use crate::walker::Walker;
-use graph_type::is_same;
+use graph_cells::is_same;
 use std::alloc::{AllocError, Global};
 use store_core::VariantId;
 use store_logic::{Cond, Operand, Path};
@@ -54,7 +54,11 @@ fn are_same(
 }
 
 /// A condition, reached where the formula holds. Takes a level of the stack for each condition within another one.
-pub(crate) fn condition(
+///
+/// # Errors
+///
+/// Want of memory, also where there are not as many tracks.
+pub fn condition(
     alloc: Global,
     l: &Layout<'_>,
     w: &mut Walker,

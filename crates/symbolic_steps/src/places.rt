@@ -6,11 +6,11 @@ ghost use Rattle.graph_view.specs.Syms as syms;
 ghost use Rattle.graph_view.specs.Live as live;
 ghost use Rattle.graph_view.specs.Sights.{sight_of};
 ghost use Rattle.site_list.specs.Reading as reading;
-ghost use Rattle.pred_transform.specs.Shown.{checked, Follows};
+ghost use Rattle.symbolic_steps.specs.Shown.{checked, Follows};
 
 use crate::seeing::lacks;
 use crate::walker::{Walker, find, passes};
-use graph_type::{is_dead, is_null};
+use graph_cells::{is_dead, is_null};
 use graph_view::Sym;
 use std::alloc::{AllocError, Global};
 use store_core::{FieldId, Owner, VariantId};

@@ -2,12 +2,12 @@
 
 ghost use Rattle.std.specs.Prelude.{◌≡◌, ℕ, [], IfOk};
 ghost use Rattle.site_list.specs.Reading as reading;
-ghost use Rattle.pred_transform.specs.Shown.{Gets, Tells};
+ghost use Rattle.symbolic_steps.specs.Shown.{Gets, Tells};
 
 use crate::places::check_access;
 use crate::seeing::{is_read, is_true_of};
 use crate::walker::{Walker, define, next_track, value_of};
-use graph_type::truth;
+use graph_cells::truth;
 use graph_view::Sym;
 use std::alloc::{AllocError, Global};
 use store_core::FieldId;

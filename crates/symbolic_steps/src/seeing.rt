@@ -1,23 +1,21 @@
-//! What is said of the store after changes of the heap, beside what `graph_type` says of it.
+//! What is said of the store after changes of the heap, beside what `graph_cells` and `graph_routes` say of it, and of truth values.
 
 ghost use Rattle.std.specs.Prelude.{◌≡◌, suc, IfOk};
 ghost use Rattle.ws2s_core.specs.declared.formula.Formula.TheVariants.{And, Not, Root};
 ghost use Rattle.ws2s_forms.specs.Forms as forms;
-ghost use Rattle.graph_view.specs.declared.view.Sym.TheVariants.{At};
 ghost use Rattle.graph_view.specs.Routes as routes;
 ghost use Rattle.graph_view.specs.Sights.{sight_of};
 ghost use Rattle.graph_view.specs.Syms as syms;
 ghost use Rattle.site_list.specs.Reading as reading;
-ghost use Rattle.site_list.specs.Parts as parts;
-ghost use Rattle.site_list.specs.Codes as codes;
 
-use graph_type::{closes, has, is_in, is_live, is_same, is_true, lives, names};
+use graph_cells::{has, is_in, is_live, is_true, lives};
+use graph_routes::names;
 use graph_view::{Sym, View};
 use std::alloc::{AllocError, Global};
 use store_core::{FieldId, VariantId};
 use tree_encode::Layout;
 use ws2s_core::{Formula, Track};
-use ws2s_forms::{all1, all2, and_list, empty_at, ex1, flag, iff, imp, later, or};
+use ws2s_forms::{all1, and_list, empty_at, ex1, iff, later, or};
 
 /// A live cell of the value hasn't the field.
 pub(crate) fn lacks(
@@ -146,67 +144,24 @@ pub(crate) fn is_truth_of(
 }
 
 /// Both hold.
-pub(crate) fn both(alloc: Global, one: &Formula, other: &Formula) -> Result<Formula, AllocError>
+///
+/// # Errors
+///
+/// Want of memory.
+pub fn both(alloc: Global, one: &Formula, other: &Formula) -> Result<Formula, AllocError>
     ensures { IfOk result (λ formula. formula ≡ And one.now other.now) }
 {
     Formula::and(alloc, one.copy(alloc)?, other.copy(alloc)?)
 }
 
 /// The first holds, and the other doesn't.
-pub(crate) fn but_not(alloc: Global, one: &Formula, other: &Formula) -> Result<Formula, AllocError>
+///
+/// # Errors
+///
+/// Want of memory.
+pub fn but_not(alloc: Global, one: &Formula, other: &Formula) -> Result<Formula, AllocError>
     ensures { IfOk result (λ formula. formula ≡ And one.now (Not other.now)) }
 {
     let fails = Formula::not(alloc, other.copy(alloc)?)?;
     Formula::and(alloc, one.copy(alloc)?, fails)
-}
-
-/// The formula holds, and the track has the value.
-fn has_where(
-    alloc: Global,
-    next: u32,
-    holds: Formula,
-    own: Track,
-    value: Sym,
-) -> Result<Formula, AllocError>
-    ensures { IfOk result (λ formula. formula ≡ And holds (syms.is_same next (At own) value)) }
-{
-    let same = is_same(alloc, next, Sym::At(own), value)?;
-    Formula::and(alloc, holds, same)
-}
-
-/// The track has the one value on the first way, whose track is `way`, and else the other.
-pub(crate) fn is_merged(
-    alloc: Global,
-    next: u32,
-    way: Track,
-    one: Sym,
-    other: Sym,
-    own: Track,
-) -> Result<Formula, AllocError>
-    ensures { IfOk result (λ formula. formula ≡ codes.is_merged way.0 one other own.0 next) }
-{
-    let on = flag(alloc, next, way)?;
-    let off = Formula::not(alloc, on.copy(alloc)?)?;
-    let first = has_where(alloc, next, on, own, one)?;
-    let second = has_where(alloc, next, off, own, other)?;
-    or(alloc, first, second)
-}
-
-/// The track has what data fields reach from the roots.
-pub(crate) fn is_part(
-    alloc: Global,
-    l: &Layout<'_>,
-    view: &View,
-    next: u32,
-    roots: &[Sym],
-    own: Track,
-) -> Result<Formula, AllocError>
-    ensures { IfOk result (λ formula. formula ≡ parts.is_part l.now.types (sight_of l.now.vars view.now) roots.now own.0 next) }
-{
-    let inner = later(next, 1)?;
-    let holds = closes(alloc, l, view, next, roots, own.0)?;
-    let other = closes(alloc, l, view, inner, roots, next)?;
-    let within = imp(alloc, other, Formula::Sub(own, Track(next)))?;
-    let least = all2(alloc, next, within)?;
-    Formula::and(alloc, holds, least)
 }

@@ -6,9 +6,9 @@ ghost use Rattle.ws2s_forms.specs.Forms.{track};
 ghost use Rattle.tree_encode.specs.Tracks.{track_count};
 ghost use Rattle.graph_view.specs.Syms as syms;
 ghost use Rattle.site_list.specs.States as states;
-ghost use Rattle.pred_transform.specs.Shown.{defining, happening, valued};
+ghost use Rattle.symbolic_steps.specs.Shown.{defining, happening, valued};
 
-use graph_type::guard;
+use graph_cells::guard;
 use graph_view::{Event, Sym, View};
 use plain_data::{Items, at};
 use std::alloc::{AllocError, Global};
@@ -19,7 +19,7 @@ use ws2s_forms::later;
 
 /// How far a walk over a code has come, with what it has made as formulas.
 #[derive(Drop)]
-pub(crate) struct Walker {
+pub struct Walker {
     /// Where the statement is reached: always, or where the root is on this track.
     pub guard: Option<Track>,
     /// The store there, and the first track that quantifiers bind.
@@ -37,7 +37,7 @@ pub(crate) struct Walker {
 }
 
 /// What stands for a variable.
-pub(crate) fn value_of(values: &[Sym], v: VarId) -> Sym
+pub fn value_of(values: &[Sym], v: VarId) -> Sym
     ensures { result ≡ states.value_of values.now v }
 {
     match at(values, v.0 as usize) {
@@ -47,7 +47,11 @@ pub(crate) fn value_of(values: &[Sym], v: VarId) -> Sym
 }
 
 /// The track that is made next.
-pub(crate) fn next_track(l: &Layout<'_>, w: &Walker) -> Result<Track, AllocError>
+///
+/// # Errors
+///
+/// Where there are not as many tracks.
+pub fn next_track(l: &Layout<'_>, w: &Walker) -> Result<Track, AllocError>
     ensures { IfOk result (λ made. made ≡ track (track_count l.now.types l.now.vars + length w.now.defined)) }
 {
     let Ok(made) = u32::try_from(w.defined.len()) else {
@@ -57,14 +61,22 @@ pub(crate) fn next_track(l: &Layout<'_>, w: &Walker) -> Result<Track, AllocError
 }
 
 /// Makes a track with this definition.
-pub(crate) fn define(w: &mut Walker, definition: Formula) -> Result<(), AllocError>
+///
+/// # Errors
+///
+/// Want of memory.
+pub fn define(w: &mut Walker, definition: Formula) -> Result<(), AllocError>
     ensures { OnOk result (w.new ≡ defining definition w.old) }
 {
     w.defined.push(definition)
 }
 
 /// Counts a place, and tells whether it is the one that is wanted.
-pub(crate) fn passes(w: &mut Walker) -> Result<bool, AllocError>
+///
+/// # Errors
+///
+/// As many places as a `u32` counts were passed before.
+pub fn passes(w: &mut Walker) -> Result<bool, AllocError>
     ensures { IfOk result (λ here. (here ≡ (w.old.passed == w.old.wanted)) × (w.new ≡ record w.old { passed = w.old.passed + 1 })) }
 {
     let here = w.passed == w.wanted;
@@ -73,7 +85,11 @@ pub(crate) fn passes(w: &mut Walker) -> Result<bool, AllocError>
 }
 
 /// Keeps the formula of the place that is wanted.
-pub(crate) fn find(
+///
+/// # Errors
+///
+/// Want of memory.
+pub fn find(
     alloc: Global,
     w: &mut Walker,
     reached: &Formula,
@@ -86,7 +102,11 @@ pub(crate) fn find(
 }
 
 /// Where the statement is reached.
-pub(crate) fn reached(alloc: Global, w: &Walker) -> Result<Formula, AllocError>
+///
+/// # Errors
+///
+/// Want of memory.
+pub fn reached(alloc: Global, w: &Walker) -> Result<Formula, AllocError>
     ensures { IfOk result (λ formula. formula ≡ syms.guard w.now.view.next w.now.guard) }
 {
     guard(alloc, w.view.next, w.guard)

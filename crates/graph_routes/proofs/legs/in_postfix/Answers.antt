@@ -1,7 +1,7 @@
 use Rattle.std.proofs.Common.{◌++◌, flat_map, map, reverse, sym, ap, ◌∙◌, arith}
-use Rattle.graph_type.specs.Legs.{part_of, span_of, span_parts}
-use Rattle.graph_type.proofs.LegLemmas.{map-reverse, no_length}
-use Rattle.graph_type.proofs.legs.in_postfix.Goals as goal
+use Rattle.graph_routes.specs.Legs.{part_of, span_of, span_parts}
+use Rattle.graph_routes.proofs.LegLemmas.{map-reverse, no_length}
+use Rattle.graph_routes.proofs.legs.in_postfix.Goals as goal
 
 pub returns : goal.returns
 returns c =

@@ -3,7 +3,7 @@ use Rattle.ws2s_core.specs.declared.track.Track.{Track}
 use Rattle.graph_view.specs.declared.view.Event.{Event}
 use Rattle.graph_view.specs.Sights.{Sight, sight_of, at_first, var_slots}
 use Rattle.graph_view.specs.Routes.{destination}
-use Rattle.graph_type.proofs.naming.first_destination.Goals as goal
+use Rattle.graph_routes.proofs.naming.first_destination.Goals as goal
 
 pub returns : goal.returns
 returns c =

@@ -6,9 +6,9 @@ use Rattle.store_core.specs.Postfix.{Form, form_of, without_parts}
 use Rattle.graph_view.specs.Fields.{is_data}
 use Rattle.graph_view.specs.Routes.{walk_rules, stays_at_truth, names_by_data}
 use Rattle.graph_view.specs.Sights.{sight_of}
-use Rattle.graph_type.specs.Legs.{applied}
-use Rattle.graph_type.proofs.WalkLemmas.{filled}
-use Rattle.graph_type.proofs.naming.walk_by_data.Goals as goal
+use Rattle.graph_routes.specs.Legs.{applied}
+use Rattle.graph_routes.proofs.WalkLemmas.{filled}
+use Rattle.graph_routes.proofs.naming.walk_by_data.Goals as goal
 
 pub returns-in-IsBool : goal.returns-in-IsBool
 returns-in-IsBool c =

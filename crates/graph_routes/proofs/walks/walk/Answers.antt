@@ -2,9 +2,9 @@ use Rattle.std.proofs.Common.{map, reverse, ap, ◌∙◌}
 use Rattle.graph_view.specs.Routes.{walk_rules, names}
 use Rattle.graph_view.specs.Fields.{is_reference}
 use Rattle.graph_view.specs.Sights.{sight_of}
-use Rattle.graph_type.specs.Legs.{part_of, parts_of, run_on}
-use Rattle.graph_type.proofs.WalkLemmas.{run_on-whole, applied-next, run_on-next}
-use Rattle.graph_type.proofs.walks.walk.Goals as goal
+use Rattle.graph_routes.specs.Legs.{part_of, parts_of, run_on}
+use Rattle.graph_routes.proofs.WalkLemmas.{run_on-whole, applied-next, run_on-next}
+use Rattle.graph_routes.proofs.walks.walk.Goals as goal
 
 pub loop-leg-init : goal.loop-leg-init
 loop-leg-init c =

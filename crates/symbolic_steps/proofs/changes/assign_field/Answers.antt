@@ -1,8 +1,8 @@
 use Rattle.std.proofs.Common.{ap, ◌∙◌}
 use Rattle.site_list.specs.States.{guard, value_of}
-use Rattle.pred_transform.proofs.ShownLemmas.{guard-shown}
-use Rattle.pred_transform.proofs.ActLemmas.{field-assigned}
-use Rattle.pred_transform.proofs.acts.assign_field.Goals as goal
+use Rattle.symbolic_steps.proofs.ShownLemmas.{guard-shown}
+use Rattle.symbolic_steps.proofs.ChangeLemmas.{field-assigned}
+use Rattle.symbolic_steps.proofs.changes.assign_field.Goals as goal
 
 pub returns : goal.returns
 returns c = λ line next wanted s is.

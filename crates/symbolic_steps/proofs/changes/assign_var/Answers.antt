@@ -1,6 +1,6 @@
 use Rattle.site_list.specs.Acts.{evaluated}
-use Rattle.pred_transform.proofs.ActLemmas.{var-assigned}
-use Rattle.pred_transform.proofs.acts.assign_var.Goals as goal
+use Rattle.symbolic_steps.proofs.ChangeLemmas.{var-assigned}
+use Rattle.symbolic_steps.proofs.changes.assign_var.Goals as goal
 
 pub returns : goal.returns
 returns c = λ line next wanted s is.

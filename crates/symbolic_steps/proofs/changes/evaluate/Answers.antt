@@ -2,9 +2,9 @@ use Rattle.store_logic.specs.declared.act.Rhs.TheVariants as rhs
 use Rattle.site_list.specs.States.{guard}
 use Rattle.site_list.specs.Reading.{Told}
 use Rattle.site_list.specs.Conditions.{condition}
-use Rattle.pred_transform.proofs.ShownLemmas.{guard-shown}
-use Rattle.pred_transform.proofs.ActLemmas.{evaluated-by}
-use Rattle.pred_transform.proofs.acts.evaluate.Goals as goal
+use Rattle.symbolic_steps.proofs.ShownLemmas.{guard-shown}
+use Rattle.symbolic_steps.proofs.ChangeLemmas.{evaluated-by}
+use Rattle.symbolic_steps.proofs.changes.evaluate.Goals as goal
 
 pub returns-in_ok-operand_value-in-Cell : goal.returns-in_ok-operand_value-in-Cell
 returns-in_ok-operand_value-in-Cell c = λ line next wanted s is.

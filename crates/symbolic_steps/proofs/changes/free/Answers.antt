@@ -2,11 +2,11 @@ use Rattle.std.proofs.Common.{ap, ◌∙◌}
 use Rattle.site_list.specs.States.{value_of}
 use Rattle.site_list.specs.Acts.{freed}
 use Rattle.graph_view.specs.declared.view.Sym.{Sym}
-use Rattle.pred_transform.specs.declared.walker.Walker.{Walker}
-use Rattle.pred_transform.specs.Shown.{shown}
-use Rattle.pred_transform.proofs.ShownLemmas.{guard-shown}
-use Rattle.pred_transform.proofs.ActLemmas.{cell-freed}
-use Rattle.pred_transform.proofs.acts.free.Goals as goal
+use Rattle.symbolic_steps.specs.declared.walker.Walker.{Walker}
+use Rattle.symbolic_steps.specs.Shown.{shown}
+use Rattle.symbolic_steps.proofs.ShownLemmas.{guard-shown}
+use Rattle.symbolic_steps.proofs.ChangeLemmas.{cell-freed}
+use Rattle.symbolic_steps.proofs.changes.free.Goals as goal
 
 pub returns : goal.returns
 returns c = λ line next wanted s is.

@@ -1,7 +1,7 @@
 use Rattle.std.proofs.Common.{ℕ, ◌+◌, ap, ◌∙◌}
 use Rattle.graph_view.specs.Sights.{var_slots}
-use Rattle.pred_transform.proofs.ActLemmas.{cell-made}
-use Rattle.pred_transform.proofs.acts.made_cell.Goals as goal
+use Rattle.symbolic_steps.proofs.ChangeLemmas.{cell-made}
+use Rattle.symbolic_steps.proofs.changes.made_cell.Goals as goal
 
 pub returns : goal.returns
 returns c = λ next wanted s is.

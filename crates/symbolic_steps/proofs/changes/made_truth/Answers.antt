@@ -1,5 +1,5 @@
-use Rattle.pred_transform.proofs.ActLemmas.{truth-made}
-use Rattle.pred_transform.proofs.acts.made_truth.Goals as goal
+use Rattle.symbolic_steps.proofs.ChangeLemmas.{truth-made}
+use Rattle.symbolic_steps.proofs.changes.made_truth.Goals as goal
 
 pub returns : goal.returns
 returns c = λ next wanted text s reaches is.

@@ -1,8 +1,8 @@
 use Rattle.std.proofs.Common.{◌<◌, length, sym, ◌∙◌, arith}
 use Rattle.tree_encode.specs.Counting.{is_data_var}
 use Rattle.tree_encode.proofs.IndexLemmas.{counted-yes, counted-no}
-use Rattle.pred_transform.proofs.acts.var_slots.Goals as goal
-use Rattle.pred_transform.proofs.acts.var_slots.Goals.{then-is_data, else-is_data}
+use Rattle.symbolic_steps.proofs.changes.var_slots.Goals as goal
+use Rattle.symbolic_steps.proofs.changes.var_slots.Goals.{then-is_data, else-is_data}
 
 pub loop-index-preserved : goal.loop-index-preserved
 loop-index-preserved c =

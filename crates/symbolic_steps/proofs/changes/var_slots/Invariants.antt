@@ -1,6 +1,6 @@
 use Rattle.std.proofs.Common.{◌≡◌, ◌≤◌, take}
 use Rattle.graph_view.specs.Sights.{var_slots}
-use Rattle.pred_transform.proofs.acts.var_slots.Given as goal
+use Rattle.symbolic_steps.proofs.changes.var_slots.Given as goal
 
 abbrev pub invariant-loop-index : goal.invariant-loop-index
 invariant-loop-index l = record {

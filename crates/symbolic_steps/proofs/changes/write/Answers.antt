@@ -1,7 +1,7 @@
 use Rattle.site_list.specs.States.{guard}
-use Rattle.pred_transform.proofs.ShownLemmas.{guard-shown}
-use Rattle.pred_transform.proofs.ActLemmas.{field-written}
-use Rattle.pred_transform.proofs.acts.write.Goals as goal
+use Rattle.symbolic_steps.proofs.ShownLemmas.{guard-shown}
+use Rattle.symbolic_steps.proofs.ChangeLemmas.{field-written}
+use Rattle.symbolic_steps.proofs.changes.write.Goals as goal
 
 pub returns : goal.returns
 returns c = λ line next wanted s is.

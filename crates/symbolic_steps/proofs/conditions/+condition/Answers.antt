@@ -1,6 +1,6 @@
 use Rattle.std.proofs.lemmas.Result.{IfOk-weaker}
-use Rattle.pred_transform.proofs.ConditionLemmas.{tells-True, tells-False, tells-Bool, tells-Is, tells-Same, tells-Not, tells-And, tells-Or}
-use Rattle.pred_transform.proofs.conditions.+condition.Goals as goal
+use Rattle.symbolic_steps.proofs.ConditionLemmas.{tells-True, tells-False, tells-Bool, tells-Is, tells-Same, tells-Not, tells-And, tells-Or}
+use Rattle.symbolic_steps.proofs.conditions.+condition.Goals as goal
 
 pub returns-in-True : goal.returns-in-True
 returns-in-True t c = IfOk-weaker c.true_at.result _ _

@@ -1,6 +1,6 @@
 use Rattle.site_list.specs.Reading.{operand_value}
-use Rattle.pred_transform.proofs.ConditionLemmas.{same-told}
-use Rattle.pred_transform.proofs.conditions.are_same.Goals as goal
+use Rattle.symbolic_steps.proofs.ConditionLemmas.{same-told}
+use Rattle.symbolic_steps.proofs.conditions.are_same.Goals as goal
 
 pub returns : goal.returns
 returns c = λ line next wanted text s reaches is.

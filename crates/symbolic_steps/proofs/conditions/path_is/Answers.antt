@@ -1,6 +1,6 @@
 use Rattle.site_list.specs.Reading.{path_value}
-use Rattle.pred_transform.proofs.ConditionLemmas.{variant-told}
-use Rattle.pred_transform.proofs.conditions.path_is.Goals as goal
+use Rattle.symbolic_steps.proofs.ConditionLemmas.{variant-told}
+use Rattle.symbolic_steps.proofs.conditions.path_is.Goals as goal
 
 pub returns : goal.returns
 returns c = λ line next wanted text s reaches is.

@@ -1,6 +1,6 @@
 use Rattle.std.proofs.Common.{arith}
-use Rattle.pred_transform.proofs.MergeLemmas.{merging-end}
-use Rattle.pred_transform.proofs.codes.merged.Goals as goal
+use Rattle.symbolic_steps.proofs.MergeLemmas.{merging-end}
+use Rattle.symbolic_steps.proofs.merging.merged.Goals as goal
 
 pub returns : goal.returns
 returns c = λ next wanted s is.

@@ -1,6 +1,6 @@
 use Rattle.std.proofs.Common.{ℕ}
-use Rattle.pred_transform.proofs.MergeLemmas.{IsMerging}
-use Rattle.pred_transform.proofs.codes.merged.Given as goal
+use Rattle.symbolic_steps.proofs.MergeLemmas.{IsMerging}
+use Rattle.symbolic_steps.proofs.merging.merged.Given as goal
 
 -- the values so far are merged, and the rest is merged behind them
 abbrev pub invariant-loop-place : goal.invariant-loop-place

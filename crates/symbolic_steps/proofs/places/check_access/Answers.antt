@@ -1,6 +1,6 @@
 use Rattle.std.proofs.Common.{sym}
-use Rattle.pred_transform.proofs.PlaceLemmas.{access-owned}
-use Rattle.pred_transform.proofs.places.check_access.Goals as goal
+use Rattle.symbolic_steps.proofs.PlaceLemmas.{access-owned}
+use Rattle.symbolic_steps.proofs.places.check_access.Goals as goal
 
 pub returns-in_ok-check_field-in-Some : goal.returns-in_ok-check_field-in-Some
 returns-in_ok-check_field-in-Some c = λ line next wanted text s reaches is.

@@ -1,5 +1,5 @@
-use Rattle.pred_transform.proofs.PlaceLemmas.{cell-checked}
-use Rattle.pred_transform.proofs.places.check_cell.Goals as goal
+use Rattle.symbolic_steps.proofs.PlaceLemmas.{cell-checked}
+use Rattle.symbolic_steps.proofs.places.check_cell.Goals as goal
 
 pub returns : goal.returns
 returns c = λ line next wanted text s reaches is.

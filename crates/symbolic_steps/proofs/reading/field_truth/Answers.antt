@@ -1,7 +1,7 @@
 use Rattle.site_list.specs.Reading.{is_true_of}
-use Rattle.pred_transform.proofs.ShownLemmas.{seen-shown}
+use Rattle.symbolic_steps.proofs.ShownLemmas.{seen-shown}
 use Rattle.std.proofs.Common.{◌∙◌}
-use Rattle.pred_transform.proofs.reading.field_truth.Goals as goal
+use Rattle.symbolic_steps.proofs.reading.field_truth.Goals as goal
 
 pub returns : goal.returns
 returns c = λ line next wanted text s reaches is. (

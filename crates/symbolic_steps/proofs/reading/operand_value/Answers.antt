@@ -1,5 +1,5 @@
-use Rattle.pred_transform.proofs.ReadingLemmas.{null-valued, path-valued}
-use Rattle.pred_transform.proofs.reading.operand_value.Goals as goal
+use Rattle.symbolic_steps.proofs.ReadingLemmas.{null-valued, path-valued}
+use Rattle.symbolic_steps.proofs.reading.operand_value.Goals as goal
 
 pub returns-in-Null : goal.returns-in-Null
 returns-in-Null c = λ line next wanted text s reaches is.

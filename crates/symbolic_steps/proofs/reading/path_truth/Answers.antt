@@ -1,7 +1,7 @@
 use Rattle.std.proofs.Common.{length, ap, sym, ◌∙◌}
 use Rattle.site_list.specs.States.{value_of}
-use Rattle.pred_transform.proofs.ReadingLemmas.{path-told, variable-told}
-use Rattle.pred_transform.proofs.reading.path_truth.Goals as goal
+use Rattle.symbolic_steps.proofs.ReadingLemmas.{path-told, variable-told}
+use Rattle.symbolic_steps.proofs.reading.path_truth.Goals as goal
 
 pub returns-in_default : goal.returns-in_default
 returns-in_default c = λ line next wanted text s reaches is.

@@ -1,7 +1,7 @@
 use Rattle.std.proofs.Common.{ap, ◌∙◌}
 use Rattle.site_list.specs.States.{value_of}
-use Rattle.pred_transform.proofs.ReadingLemmas.{along-path}
-use Rattle.pred_transform.proofs.reading.path_value.Goals as goal
+use Rattle.symbolic_steps.proofs.ReadingLemmas.{along-path}
+use Rattle.symbolic_steps.proofs.reading.path_value.Goals as goal
 
 pub returns : goal.returns
 returns c = λ line next wanted text s reaches is.

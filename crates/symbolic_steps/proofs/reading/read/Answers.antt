@@ -1,5 +1,5 @@
-use Rattle.pred_transform.proofs.ReadingLemmas.{read-made}
-use Rattle.pred_transform.proofs.reading.read.Goals as goal
+use Rattle.symbolic_steps.proofs.ReadingLemmas.{read-made}
+use Rattle.symbolic_steps.proofs.reading.read.Goals as goal
 
 pub returns : goal.returns
 returns c = λ line next wanted text s reaches is.

@@ -1,6 +1,6 @@
 use Rattle.std.proofs.Common.{refl}
-use Rattle.pred_transform.proofs.ReadingLemmas.{read-step, read-end}
-use Rattle.pred_transform.proofs.reading.read_along.Goals as goal
+use Rattle.symbolic_steps.proofs.ReadingLemmas.{read-step, read-end}
+use Rattle.symbolic_steps.proofs.reading.read_along.Goals as goal
 
 pub loop-field-preserved : goal.loop-field-preserved
 loop-field-preserved c = λ line next wanted text s reaches is.

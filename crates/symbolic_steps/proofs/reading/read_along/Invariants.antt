@@ -1,7 +1,7 @@
 use Rattle.std.proofs.Common.{ℕ, take}
 use Rattle.site_list.specs.Reading.{read_along}
-use Rattle.pred_transform.specs.Shown.{Gets}
-use Rattle.pred_transform.proofs.reading.read_along.Given as goal
+use Rattle.symbolic_steps.specs.Shown.{Gets}
+use Rattle.symbolic_steps.proofs.reading.read_along.Given as goal
 
 -- the fields so far are read
 abbrev pub invariant-loop-field : goal.invariant-loop-field

@@ -5,7 +5,7 @@ use Rattle.ws2s_forms.specs.Forms.{ex1}
 use Rattle.graph_view.specs.Sights.{sight_of}
 use Rattle.graph_view.specs.Syms.{is_in}
 use Rattle.graph_view.specs.Fields.{is_true}
-use Rattle.pred_transform.proofs.seeing.is_true_of.Goals as goal
+use Rattle.symbolic_steps.proofs.seeing.is_true_of.Goals as goal
 
 pub returns : goal.returns
 returns c =
