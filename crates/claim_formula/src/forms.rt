@@ -8,7 +8,8 @@ ghost use Rattle.site_list.specs.Claims as formulas;
 ghost use Rattle.claim_formula.specs.Joining.{variant_formula, same_formula, member_formula, subset_formula, walk_formula};
 
 use crate::terms::{base_value, is_value};
-use graph_type::{is_in, is_live, lives, walk};
+use graph_cells::{is_in, is_live, lives};
+use graph_routes::walk;
 use graph_view::View;
 use std::alloc::{AllocError, Global};
 use store_core::{Route, VariantId};

@@ -9,7 +9,7 @@ ghost use Rattle.site_list.specs.Claims as formulas;
 ghost use Rattle.plain_data.specs.Stacks.{rest};
 ghost use Rattle.claim_formula.specs.Joining.{joined, last_made};
 
-use graph_type::lives_in;
+use graph_cells::lives_in;
 use graph_view::View;
 use plain_data::Stack;
 use std::alloc::{AllocError, Global};

@@ -6,7 +6,8 @@ ghost use Rattle.site_list.specs.Claims as formulas;
 ghost use Rattle.site_list.specs.States as states;
 ghost use Rattle.claim_formula.specs.Joining.{is_reached, one_more};
 
-use graph_type::{is_in, is_live, is_true, names, truth};
+use graph_cells::{is_in, is_live, is_true, truth};
+use graph_routes::names;
 use graph_view::{Sym, View};
 use plain_data::at;
 use std::alloc::{AllocError, Global};

@@ -1,3 +1,1 @@
 pub mod LoopLemmas
-pub mod LegLemmas
-pub mod WalkLemmas

@@ -1,2 +1,1 @@
-pub mod Legs
 pub mod Valued

@@ -9,8 +9,8 @@ ghost use Rattle.graph_view.specs.Routes as routes;
 ghost use Rattle.graph_view.specs.Cuts.{has_value, wrong_parts};
 ghost use Rattle.graph_view.specs.Sights.{sight_of};
 
-use crate::naming::{destination, edge, names};
 use graph_cells::{Kinds, fields_of_kind, has, is_left, is_live};
+use graph_routes::{destination, edge, names};
 use graph_view::{Sym, View};
 use std::alloc::{AllocError, Global};
 use store_core::{FieldId, FieldKind, Route, TypeId};

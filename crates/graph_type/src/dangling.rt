@@ -8,8 +8,8 @@ ghost use Rattle.graph_view.specs.Live as live;
 ghost use Rattle.graph_view.specs.Routes as routes;
 ghost use Rattle.graph_view.specs.Sights.{sight_of};
 
-use crate::naming::names;
 use graph_cells::{Kinds, all_three, fields_of_kind, is_dead, is_not_live, lives_in, some_pair};
+use graph_routes::names;
 use graph_view::{Sym, View};
 use std::alloc::{AllocError, Global};
 use store_core::FieldId;

@@ -1,27 +1,16 @@
-//! Routes, fields and what is wrong at a cut, as formulas on the tree of a store after a list of heap events.
+//! What is wrong with a graph type at a cut, as formulas on the tree of a store after a list of heap events: a dead cell is named, a
+//! cell is named twice, a cell is lost, or a pointer field names another cell than its destinations.
 //!
 //! Each function makes exactly the formula of `graph_view` that its clause names, or wants memory, also where there are not as
 //! many tracks. What the formulas say of a store holds for views that fit the layout, where `next` and all tracks behind it
 //! are free; they are made for all others too.
 #![tactic(auto)]
 
-mod calls;
+mod conditions;
 mod cuts;
 mod dangling;
-mod forks;
-mod legs;
-mod naming;
 mod shared;
 mod valued;
-mod walks;
 
-pub use calls::{
-    bool_formula, cut_formula, field_formula, live_formula, step_formula, variant_formula,
-    walk_formula,
-};
+pub use conditions::cut_formula;
 pub use cuts::closes;
-pub use graph_cells::{
-    guard, has, is_dead, is_in, is_live, is_null, is_same, is_true, lives, lives_in, truth,
-};
-pub use naming::{data_walk, destination, edge, names, names_by_data};
-pub use walks::walk;

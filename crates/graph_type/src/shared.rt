@@ -11,8 +11,8 @@ ghost use Rattle.graph_view.specs.Cuts.{both_name, two_fields, pairs, field_pair
 ghost use Rattle.graph_view.specs.Syms as syms;
 ghost use Rattle.graph_view.specs.Sights.{sight_of};
 
-use crate::naming::{edge, names_by_data};
 use graph_cells::{Kinds, all_three, is_in, is_live, push_of_kind, some_pair};
+use graph_routes::{edge, names_by_data};
 use graph_view::{Sym, View};
 use std::alloc::{AllocError, Global};
 use store_core::{FieldId, TypeId};

@@ -11,8 +11,9 @@ use Rattle.ws2s_forms.specs.Forms.{and_list}
 use Rattle.graph_view.specs.declared.view.View.{View}
 use Rattle.graph_view.specs.Sights.{sight_of}
 use Rattle.site_list.specs.Claims.{claim}
-use Rattle.pred_transform.specs.declared.walker.Walker.{Walker}
-use Rattle.pred_transform.specs.Shown.{checked, claims_hold}
+use Rattle.symbolic_steps.specs.declared.walker.Walker.{Walker}
+use Rattle.symbolic_steps.specs.Shown.{checked}
+use Rattle.pred_transform.specs.Holding.{claims_hold}
 
 module _ (types : List TypeEntry) (vars : List VarEntry) (part : Option Track) where
   -- the claim on the store that the view sees

@@ -33,10 +33,10 @@ use Rattle.site_list.specs.Cuts.{arrived}
 use Rattle.site_list.specs.Codes as codes
 use Rattle.site_list.specs.Codes.{Going, in_order, with_ways, on_way, merged, with_merged, plain_if, items, other_code, branch, item_rule, tail_rule, code_rule}
 use Rattle.site_list.specs.Codes.{code}
-use Rattle.pred_transform.specs.declared.walker.Walker.{Walker}
+use Rattle.symbolic_steps.specs.declared.walker.Walker.{Walker}
 use Rattle.pred_transform.specs.declared.codes.Fork.{Fork}
-use Rattle.pred_transform.specs.Shown.{shown, with_guard, with_values, with_events, Leads}
-use Rattle.pred_transform.specs.Forks.{IsFork}
+use Rattle.symbolic_steps.specs.Shown.{shown, Leads}
+use Rattle.pred_transform.specs.Forks.{IsFork, with_guard, with_values, with_events}
 
 module _ (types : List TypeEntry) (vars : List VarEntry) where
   -- ---- two ways

@@ -19,9 +19,10 @@ use Rattle.graph_view.specs.Sights.{sight_of}
 use Rattle.site_list.specs.States.{State, guard, check, sight, value_of, next_track}
 use Rattle.site_list.specs.Parts.{is_part, escapes}
 use Rattle.site_list.specs.Cuts.{check_store, check_stores, check_claims, with_part, arrived_at_call, arrived}
-use Rattle.pred_transform.specs.declared.walker.Walker.{Walker}
-use Rattle.pred_transform.specs.Shown.{shown, checked, defining, claims_hold}
-use Rattle.pred_transform.proofs.ShownLemmas.{step-checked, own-shown, defining-shown, sight-shown}
+use Rattle.symbolic_steps.specs.declared.walker.Walker.{Walker}
+use Rattle.symbolic_steps.specs.Shown.{shown, checked, defining}
+use Rattle.pred_transform.specs.Holding.{claims_hold}
+use Rattle.symbolic_steps.proofs.ShownLemmas.{step-checked, own-shown, defining-shown, sight-shown}
 
 module _ (types : List TypeEntry) (vars : List VarEntry) (next wanted : ℕ) where
   pub part-made : (s : State) (w0 w1 : Walker) (roots : List VarId) (values : List Sym) (definition : Formula) (own : Track) → w0 ≡ shown next wanted s →

@@ -20,8 +20,8 @@ use Rattle.site_list.specs.Claims.{claim}
 use Rattle.site_list.specs.Cuts.{with_part}
 use Rattle.site_list.specs.Triples as triples
 use Rattle.site_list.specs.Triples.{at_start, started, walked, bind, returned_part, start_holds, first_bound, site_formula, site_formula_at}
-use Rattle.pred_transform.specs.declared.walker.Walker.{Walker}
-use Rattle.pred_transform.specs.Shown.{place_formula, written, shown}
+use Rattle.symbolic_steps.specs.declared.walker.Walker.{Walker}
+use Rattle.symbolic_steps.specs.Shown.{place_formula, written, shown}
 use Rattle.pred_transform.specs.Starts.{own_values, pointers_stay, site_of_place}
 
 -- the parts of a site's formula, one after the other

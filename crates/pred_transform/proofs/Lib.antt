@@ -1,11 +1,6 @@
-pub mod ShownLemmas
-pub mod PlaceLemmas
-pub mod ReadingLemmas
-pub mod ConditionLemmas
 pub mod ActLemmas
 pub mod ClaimLemmas
 pub mod CutLemmas
 pub mod CodeLemmas
-pub mod MergeLemmas
 pub mod BindingLemmas
 pub mod FormulaLemmas

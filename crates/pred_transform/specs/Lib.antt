@@ -1,4 +1,4 @@
-pub mod Shown
 pub mod Forks
 pub mod Free
+pub mod Holding
 pub mod Starts

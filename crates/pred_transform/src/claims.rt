@@ -6,14 +6,14 @@ ghost use Rattle.graph_view.specs.Sights.{sight_of};
 ghost use Rattle.site_list.specs.Claims as formulas;
 ghost use Rattle.site_list.specs.Parts as escaping;
 
-use crate::walker::value_of;
 use claim_formula::assertion_formula;
-use graph_type::is_in;
+use graph_cells::is_in;
 use graph_view::{Sym, View};
 use std::alloc::{AllocError, Global};
 use store_core::{VarId, VarKind};
 use store_exec::Claim;
 use store_logic::Region;
+use symbolic_steps::value_of;
 use tree_encode::Layout;
 use ws2s_core::{Formula, Track};
 use ws2s_forms::{ex1, later, or_list};

@@ -1,6 +1,6 @@
 //! The walk over a code.
 
-ghost use Rattle.std.specs.Prelude.{◌≡◌, ℕ, suc, min, Some, slice_get, IfOk, OnOk};
+ghost use Rattle.std.specs.Prelude.{◌≡◌, ℕ, suc, Some, slice_get, IfOk, OnOk};
 ghost use Rattle.std.specs.Option.{option_map_or};
 ghost use Rattle.ws2s_core.specs.declared.formula.Formula.TheVariants.{And, Not};
 ghost use Rattle.ws2s_forms.specs.Forms.{track};
@@ -9,19 +9,17 @@ ghost use Rattle.site_list.specs.States as states;
 ghost use Rattle.site_list.specs.Conditions as conditions;
 ghost use Rattle.site_list.specs.Codes as codes;
 ghost use Rattle.site_list.specs.Cuts as arriving;
-ghost use Rattle.pred_transform.specs.Shown.{merged_value, shown, with_guard, with_values, with_events, Follows, Leads};
-ghost use Rattle.pred_transform.specs.Forks.{IsFork};
+ghost use Rattle.symbolic_steps.specs.Shown.{shown, Follows, Leads};
+ghost use Rattle.pred_transform.specs.Forks.{IsFork, with_guard, with_values, with_events};
 
-use crate::acts::{act, made_truth};
-use crate::conditions::condition;
+use crate::acts::act;
 use crate::cuts::arrive;
-use crate::seeing::{both, but_not, is_merged};
-use crate::walker::{Walker, define, next_track, reached};
 use graph_view::{EventList, Sym, SymList};
 use plain_data::at;
 use std::alloc::{AllocError, Global};
 use store_exec::{Code, Cut, Item, Tail};
 use store_logic::Cond;
+use symbolic_steps::{Walker, both, but_not, condition, made_truth, merged, next_track, reached};
 use tree_encode::Layout;
 use ws2s_core::{Formula, Track};
 use ws2s_forms::later;
@@ -85,67 +83,6 @@ fn ways(alloc: Global, l: &Layout<'_>, w: &mut Walker, cond: &Cond) -> Result<Tr
     let holds = condition(alloc, l, w, &here, cond)?;
     let way = fork_ways(alloc, l, w, &holds)?;
     Ok(way)
-}
-
-/// Both are the same.
-fn is_sym(one: Sym, other: Sym) -> bool
-    ensures { result ≡ codes.is_sym one other }
-{
-    match (one, other) {
-        (Sym::Null, Sym::Null) => true,
-        (Sym::At(x), Sym::At(y)) => x.0 == y.0,
-        (Sym::Null, Sym::At(_)) | (Sym::At(_), Sym::Null) => false,
-    }
-}
-
-/// What stands for a variable after both ways: what does on both, or a track that is made for it.
-fn merged_value(
-    alloc: Global,
-    l: &Layout<'_>,
-    w: &mut Walker,
-    way: Track,
-    one: Sym,
-    other: Sym,
-) -> Result<Sym, AllocError>
-    ensures { IfOk result (λ value. (next wanted : ℕ) (s : states.State) → w.old ≡ shown next wanted s →
-        (value ≡ (merged_value l.now.types l.now.vars way.0 one other s).0)
-        × (w.new ≡ shown next wanted ((merged_value l.now.types l.now.vars way.0 one other s).1))) }
-{
-    if is_sym(one, other) {
-        return Ok(one);
-    }
-    let own = next_track(l, w)?;
-    let definition = is_merged(alloc, w.view.next, way, one, other, own)?;
-    define(w, definition)?;
-    Ok(Sym::At(own))
-}
-
-/// The lesser of two lengths.
-fn lesser(one: usize, other: usize) -> usize
-    ensures { result ≡ min one other }
-{
-    if one < other { one } else { other }
-}
-
-/// What stands for the variables after both ways, from what stands for them on each.
-fn merged(
-    alloc: Global,
-    l: &Layout<'_>,
-    w: &mut Walker,
-    way: Track,
-    first: &[Sym],
-    other: &[Sym],
-) -> Result<SymList, AllocError>
-    ensures { IfOk result (λ values. (next wanted : ℕ) (s : states.State) → w.old ≡ shown next wanted s →
-        (values ≡ (codes.merged l.now.types l.now.vars way.0 first.now other.now s).0)
-        × (w.new ≡ shown next wanted ((codes.merged l.now.types l.now.vars way.0 first.now other.now s).1))) }
-{
-    let mut values = SymList::new(alloc);
-    for place in 0..lesser(first.len(), other.len()) {
-        let value = merged_value(alloc, l, w, way, first[place], other[place])?;
-        values.push(value)?;
-    }
-    Ok(values)
 }
 
 /// What is kept while the ways of an `if` are walked over.

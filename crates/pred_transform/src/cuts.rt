@@ -8,19 +8,19 @@ ghost use Rattle.graph_view.specs.Sights.{sight_of};
 ghost use Rattle.site_list.specs.States as states;
 ghost use Rattle.site_list.specs.Parts as escaping;
 ghost use Rattle.site_list.specs.Cuts as cuts;
-ghost use Rattle.pred_transform.specs.Shown.{checked, claims_hold, shown, Leads};
+ghost use Rattle.symbolic_steps.specs.Shown.{checked, shown, Leads};
+ghost use Rattle.pred_transform.specs.Holding.{claims_hold};
 
 use crate::claims::{claims, escapes};
-use crate::seeing::is_part;
-use crate::walker::{Walker, define, find, next_track, passes, reached, value_of};
-use graph_type::cut_formula;
-use graph_view::{CutCheck, Sym, SymList};
+use graph_type::{closes, cut_formula};
+use graph_view::{CutCheck, Sym, SymList, View};
 use std::alloc::{AllocError, Global};
 use store_core::VarId;
 use store_exec::{Claim, Cut};
+use symbolic_steps::{Walker, define, find, next_track, passes, reached, value_of};
 use tree_encode::Layout;
 use ws2s_core::{Formula, Track};
-use ws2s_forms::and_list;
+use ws2s_forms::{all2, and_list, imp, later};
 
 /// What stands for each of the variables.
 fn roots_of(alloc: Global, values: &[Sym], vars: &[VarId]) -> Result<SymList, AllocError>
@@ -31,6 +31,25 @@ fn roots_of(alloc: Global, values: &[Sym], vars: &[VarId]) -> Result<SymList, Al
         roots.push(value_of(values, *v))?;
     }
     Ok(roots)
+}
+
+/// The track has what data fields reach from the roots.
+fn is_part(
+    alloc: Global,
+    l: &Layout<'_>,
+    view: &View,
+    next: u32,
+    roots: &[Sym],
+    own: Track,
+) -> Result<Formula, AllocError>
+    ensures { IfOk result (λ formula. formula ≡ escaping.is_part l.now.types (sight_of l.now.vars view.now) roots.now own.0 next) }
+{
+    let inner = later(next, 1)?;
+    let holds = closes(alloc, l, view, next, roots, own.0)?;
+    let other = closes(alloc, l, view, inner, roots, next)?;
+    let within = imp(alloc, other, Formula::Sub(own, Track(next)))?;
+    let least = all2(alloc, next, within)?;
+    Formula::and(alloc, holds, least)
 }
 
 /// The part with these roots, on a track that is made for it.

@@ -9,13 +9,8 @@ mod acts;
 mod binding;
 mod claims;
 mod codes;
-mod conditions;
 mod cuts;
 mod formula;
-mod places;
-mod reading;
-mod seeing;
-mod walker;
 
 pub use formula::triple_formula;
 pub use site_list::sites;

@@ -4,10 +4,11 @@ use crate::routes::route_of;
 use crate::tables::type_named;
 use crate::views::{field, number, sym, variant, word};
 use anyhow::{Result, bail};
-use graph_type::{
-    bool_formula, closes, cut_formula, field_formula, has, is_dead, is_live, is_null, live_formula,
-    step_formula, variant_formula, walk_formula,
+use graph_cells::{has, is_dead, is_live, is_null};
+use graph_routes::{
+    bool_formula, field_formula, live_formula, step_formula, variant_formula, walk_formula,
 };
+use graph_type::{closes, cut_formula};
 use graph_view::{CutCheck, View};
 use std::alloc::{AllocError, Global};
 use std::str::SplitWhitespace;

@@ -1,7 +1,7 @@
 use Rattle.std.proofs.Common.{sym, subst}
 use Rattle.store_logic.specs.declared.act.Act.{Act}
 use Rattle.site_list.specs.Acts.{act_rule}
-use Rattle.pred_transform.specs.Shown.{Leads}
+use Rattle.symbolic_steps.specs.Shown.{Leads}
 use Rattle.pred_transform.proofs.acts.act.Goals as goal
 
 pub returns-in_ok-assert-in-Assert : goal.returns-in_ok-assert-in-Assert

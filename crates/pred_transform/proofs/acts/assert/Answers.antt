@@ -1,4 +1,4 @@
-use Rattle.pred_transform.proofs.ShownLemmas.{guard-shown}
+use Rattle.symbolic_steps.proofs.ShownLemmas.{guard-shown}
 use Rattle.pred_transform.proofs.ActLemmas.{assertion-checked}
 use Rattle.pred_transform.proofs.acts.assert.Goals as goal
 

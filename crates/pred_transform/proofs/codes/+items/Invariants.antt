@@ -1,6 +1,6 @@
 use Rattle.std.proofs.Common.{take}
 use Rattle.site_list.specs.Codes.{items}
-use Rattle.pred_transform.specs.Shown.{Leads}
+use Rattle.symbolic_steps.specs.Shown.{Leads}
 use Rattle.pred_transform.proofs.codes.+items.Given as goal
 
 -- the items so far are walked over

@@ -1,6 +1,6 @@
 use Rattle.std.proofs.Common.{refl}
 use Rattle.ws2s_core.specs.declared.formula.Formula.TheVariants.{And, Not}
-use Rattle.pred_transform.proofs.ShownLemmas.{own-shown, guard-shown}
+use Rattle.symbolic_steps.proofs.ShownLemmas.{own-shown, guard-shown}
 use Rattle.pred_transform.proofs.CodeLemmas.{ways-made}
 use Rattle.pred_transform.proofs.codes.fork_ways.Goals as goal
 

@@ -1,7 +1,7 @@
 use Rattle.site_list.specs.States.{guard}
 use Rattle.site_list.specs.Reading.{Told}
 use Rattle.site_list.specs.Conditions.{condition}
-use Rattle.pred_transform.proofs.ShownLemmas.{guard-shown}
+use Rattle.symbolic_steps.proofs.ShownLemmas.{guard-shown}
 use Rattle.pred_transform.proofs.codes.ways.Goals as goal
 
 pub returns : goal.returns

@@ -1,8 +1,9 @@
 use Rattle.std.proofs.Common.{None, ap, ◌∙◌}
 use Rattle.ws2s_core.specs.declared.formula.Formula.TheVariants.{Not}
 use Rattle.graph_view.specs.Sights.{sight_of}
-use Rattle.pred_transform.specs.Shown.{checked, claims_hold}
-use Rattle.pred_transform.proofs.ShownLemmas.{guard-shown}
+use Rattle.symbolic_steps.specs.Shown.{checked}
+use Rattle.pred_transform.specs.Holding.{claims_hold}
+use Rattle.symbolic_steps.proofs.ShownLemmas.{guard-shown}
 use Rattle.pred_transform.proofs.CutLemmas.{alone-arrived}
 use Rattle.pred_transform.proofs.cuts.arrive_alone.Goals as goal
 

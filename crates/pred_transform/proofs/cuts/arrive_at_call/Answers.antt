@@ -4,8 +4,9 @@ use Rattle.graph_view.specs.Sights.{sight_of}
 use Rattle.site_list.specs.States.{next_track}
 use Rattle.site_list.specs.Parts.{escapes}
 use Rattle.site_list.specs.Cuts.{with_part}
-use Rattle.pred_transform.specs.Shown.{checked, claims_hold}
-use Rattle.pred_transform.proofs.ShownLemmas.{guard-shown}
+use Rattle.symbolic_steps.specs.Shown.{checked}
+use Rattle.pred_transform.specs.Holding.{claims_hold}
+use Rattle.symbolic_steps.proofs.ShownLemmas.{guard-shown}
 use Rattle.pred_transform.proofs.CutLemmas.{call-arrived}
 use Rattle.pred_transform.proofs.cuts.arrive_at_call.Goals as goal
 

@@ -1,5 +1,5 @@
 use Rattle.std.proofs.Common.{◌≡◌, OnOk, subst}
-use Rattle.pred_transform.specs.declared.walker.Walker.{Walker}
+use Rattle.symbolic_steps.specs.declared.walker.Walker.{Walker}
 use Rattle.pred_transform.proofs.ClaimLemmas.{claims-found}
 use Rattle.pred_transform.proofs.cuts.check_claims.Goals as goal
 

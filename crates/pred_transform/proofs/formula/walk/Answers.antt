@@ -1,7 +1,7 @@
 use Rattle.std.proofs.Common.{ap, ◌∙◌}
 use Rattle.site_list.specs.Triples.{started}
 use Rattle.site_list.specs.Codes.{code}
-use Rattle.pred_transform.specs.Shown.{shown}
+use Rattle.symbolic_steps.specs.Shown.{shown}
 use Rattle.pred_transform.proofs.formula.walk.Goals as goal
 
 pub returns : goal.returns

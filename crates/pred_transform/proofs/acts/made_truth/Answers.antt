@@ -1,7 +1,0 @@
-use Rattle.pred_transform.proofs.ActLemmas.{truth-made}
-use Rattle.pred_transform.proofs.acts.made_truth.Goals as goal
-
-pub returns : goal.returns
-returns c = λ next wanted text s reaches is.
-    truth-made c.args.l.now.types c.args.l.now.vars next wanted text s c.args.w.now c.define.new.w c.args.holds.now c.in_ok-definition.definition
-    c.in_ok-own.own reaches is c.in_ok-own.ensures c.in_ok-definition.ensures c.in_ok-define.ensures
