@@ -1,5 +1,5 @@
 -- Assertions of any form: a rule for what each is typed as, and one for its faults, parts from the left.
-use Rattle.std.specs.Prelude.{List, map, None}
+use Rattle.std.specs.Prelude.{Bool, true, false, List, map, None}
 use Rattle.pale_syntax.specs.declared.tree.assertion.Assertion as source
 use Rattle.pale_syntax.specs.declared.tree.assertion.Assertion.TheOpen.{Assertion-F}
 use Rattle.pale_syntax.specs.declared.tree.assertion.Assertion.TheFolds.{fold-Assertion}
@@ -69,6 +69,29 @@ fault_rules vocabulary (Assertion-F.Quantified q a) scope = quantifier_fault voc
 -- the first fault of an assertion
 unfoldable pub assertion_fault : Vocabulary → List Entry → source.Assertion → Fault
 assertion_fault vocabulary scope a = fold-Assertion (List Entry → Fault) (fault_rules vocabulary) a scope
+
+-- ---- assertions that have others in them
+
+abbrev pub has_parts_in : {Part : Type 0} → Assertion-F Part → Bool
+has_parts_in Assertion-F.True = false
+has_parts_in Assertion-F.False = false
+has_parts_in (Assertion-F.Truth p) = false
+has_parts_in (Assertion-F.Same t operator u) = false
+has_parts_in (Assertion-F.Differ t operator u) = false
+has_parts_in (Assertion-F.Member t word set) = false
+has_parts_in (Assertion-F.Subset t word other) = false
+has_parts_in (Assertion-F.Walk t angle along u) = false
+has_parts_in (Assertion-F.Is t colon v) = false
+has_parts_in (Assertion-F.Use p paths) = false
+has_parts_in (Assertion-F.Not place a) = true
+has_parts_in (Assertion-F.And first others) = true
+has_parts_in (Assertion-F.Or first others) = true
+has_parts_in (Assertion-F.Imp a place b) = true
+has_parts_in (Assertion-F.Iff first others) = true
+has_parts_in (Assertion-F.Quantified q a) = true
+
+abbrev pub has_parts : source.Assertion → Bool
+has_parts a = has_parts_in (source.out-Assertion a)
 
 -- ---- a quantifier and what it governs
 
