@@ -230,6 +230,12 @@ stated a = Ok (formula.Atom a)
 abbrev pub denied : Atom → Found TextFormula
 denied a = Ok (formula.Not (formula.Atom a))
 
+abbrev pub resolved_differ : Names → SourceTerm → SourceTerm → Found TextFormula
+resolved_differ names t u = resolved_same names t u >>= denied
+
+abbrev pub resolved_not_in : Names → SourceTerm → SourceName → Found TextFormula
+resolved_not_in names t x = resolved_in names t x >>= denied
+
 -- the right side of an implication, whose left side is resolved
 abbrev pub resolved_right : TextFormula → Resolving → Resolving
 resolved_right left g names = g names >>= λ right. Ok (formula.Implies left right)
@@ -248,9 +254,9 @@ abbrev pub resolved_node : ℕ → SourceFormula-F Resolving → Resolving
 resolved_node outer (SourceFormula-F.Truth b) names = Ok (formula.Atom (atom.Truth b))
 resolved_node outer (SourceFormula-F.Empty x) names = resolved_empty names x >>= stated
 resolved_node outer (SourceFormula-F.Same t u) names = resolved_same names t u >>= stated
-resolved_node outer (SourceFormula-F.Differ t u) names = resolved_same names t u >>= denied
+resolved_node outer (SourceFormula-F.Differ t u) names = resolved_differ names t u
 resolved_node outer (SourceFormula-F.In t x) names = resolved_in names t x >>= stated
-resolved_node outer (SourceFormula-F.NotIn t x) names = resolved_in names t x >>= denied
+resolved_node outer (SourceFormula-F.NotIn t x) names = resolved_not_in names t x
 resolved_node outer (SourceFormula-F.Sub t x) names = resolved_sub names t x >>= stated
 resolved_node outer (SourceFormula-F.Use p terms) names = resolved_use names p terms >>= stated
 resolved_node outer (SourceFormula-F.Not f) names = f names >>= λ inner. Ok (formula.Not inner)

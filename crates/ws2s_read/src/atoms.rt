@@ -2,8 +2,8 @@
 
 ghost use Rattle.std.specs.Prelude.{◌≡◌, ℕ, length, false, IfOk, IfErr};
 ghost use Rattle.ws2s_syntax.specs.declared.formula.TextFormula.TheVariants as text_formula;
-ghost use Rattle.ws2s_read.specs.Resolving.{IsStop, ◌>>=◌, resolved_empty, resolved_in, resolved_sub, resolved_same, resolved_arguments, resolved_use};
-ghost use Rattle.ws2s_read.specs.Resolving.{denied, has_parts, resolved_formula};
+ghost use Rattle.ws2s_read.specs.Resolving.{IsStop, resolved_empty, resolved_in, resolved_sub, resolved_same, resolved_arguments, resolved_use};
+ghost use Rattle.ws2s_read.specs.Resolving.{resolved_differ, resolved_not_in, has_parts, resolved_formula};
 
 use crate::names::{Meaning, Names, refused};
 use crate::terms::{
@@ -129,8 +129,8 @@ fn resolve_differ(
     left: &SourceTerm,
     right: &SourceTerm,
 ) -> Result<TextFormula, TextStop>
-    ensures formula { IfOk result (λ found. (resolved_same names.now left.now right.now >>= denied) ≡ Ok found) }
-    ensures stop { IfErr result (IsStop (resolved_same names.now left.now right.now >>= denied)) }
+    ensures formula { IfOk result (λ found. resolved_differ names.now left.now right.now ≡ Ok found) }
+    ensures stop { IfErr result (IsStop (resolved_differ names.now left.now right.now)) }
 {
     let same = resolve_same(alloc, names, left, right)?;
     Ok(negated(alloc, same)?)
@@ -143,8 +143,8 @@ fn resolve_not_in(
     term: &SourceTerm,
     set: &SourceName,
 ) -> Result<TextFormula, TextStop>
-    ensures formula { IfOk result (λ found. (resolved_in names.now term.now set.now >>= denied) ≡ Ok found) }
-    ensures stop { IfErr result (IsStop (resolved_in names.now term.now set.now >>= denied)) }
+    ensures formula { IfOk result (λ found. resolved_not_in names.now term.now set.now ≡ Ok found) }
+    ensures stop { IfErr result (IsStop (resolved_not_in names.now term.now set.now)) }
 {
     let within = resolve_in(alloc, names, term, set)?;
     Ok(negated(alloc, within)?)

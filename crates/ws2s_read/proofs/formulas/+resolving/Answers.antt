@@ -1,14 +1,13 @@
-use Rattle.std.proofs.Common.{◌≡◌, Ok, IfOk, IfErr, map, sym, ap, ◌∙◌, subst}
-use Rattle.ws2s_syntax.specs.declared.formula.TextFormula.TheVariants as formula
-use Rattle.ws2s_read.specs.Resolving.{IsStop, each_resolved, resolved_formula}
-use Rattle.ws2s_read.proofs.ResolvingLemmas.{found-then, stop-then, stop_returned, all_bound-front, front-again}
+use Rattle.std.proofs.Common.{◌≡◌, Ok, IfOk, IfErr, ◌∙◌, subst}
+use Rattle.ws2s_read.specs.Resolving.{IsStop}
+use Rattle.ws2s_read.proofs.ResolvingLemmas.{stop_returned, all_bound-front, front-again}
 use Rattle.ws2s_read.proofs.FormsLemmas.{stop-Not, found-Not, stop-Implies, same-Implies, stop-Chain, same-Chain, same-Quantified}
 use Rattle.ws2s_read.proofs.formulas.+resolving.Goals as goal
 
 pub resolve_formula-returns-in_err-formula-in-Not-clause-stop : goal.resolve_formula-returns-in_err-formula-in-Not-clause-stop
 resolve_formula-returns-in_err-formula-in-Not-clause-stop t c =
     let e = c.in_err-formula-in-Not.field-0.0 in
-    stop_returned _ c.from_residual-in_err-formula-in-Not.result e c.from_residual-in_err-formula-in-Not.ensures.1
+    stop_returned _ c.from_residual.result e c.from_residual.ensures.1
     (stop-Not c.args.outer c.args.formula.now _ _ c.args.names.now e c.in-Not.is c.get.ensures c.in_err-formula-in-Not.ensures.stop)
 
 pub resolve_formula-returns-in_err-left-in-Implies-clause-stop : goal.resolve_formula-returns-in_err-left-in-Implies-clause-stop
@@ -69,3 +68,9 @@ resolve_formula-returns-in_ok-first-in-Chain-clause-stop t c =
     subst (λ r. IfErr c.resolve_others.result (IsStop r))
     (same-Chain c.args.outer c.args.formula.now _ _ _ _ _ c.args.names.now _ _ c.in-Chain.is c.get-in-Chain.ensures c.as_slice-others.ensures
     c.in_ok-first-in-Chain.ensures.names_stay c.in_ok-first-in-Chain.ensures.formula) c.resolve_others.ensures.stop
+
+pub resolve_formula-returns-in_default-clause-formula : goal.resolve_formula-returns-in_default-clause-formula
+resolve_formula-returns-in_default-clause-formula t c = c.resolve_alone.ensures.formula c.args.outer
+
+pub resolve_formula-returns-in_default-clause-stop : goal.resolve_formula-returns-in_default-clause-stop
+resolve_formula-returns-in_default-clause-stop t c = c.resolve_alone.ensures.stop c.args.outer
