@@ -2,6 +2,7 @@
 """Measures the gate: runs `rt ci` at the top of the repository and prints a table of processor seconds and memory.
 
     tools/gate_times.py                 runs `rt ci` and watches it
+    tools/gate_times.py --anew          the same from nothing: nothing is taken from what earlier runs proved on this machine
     tools/gate_times.py --watch FOLDER  watches a run that is under way in that copy of the repository until it ends
     tools/gate_times.py --simulate N    how long the gate takes on N processors, and its longest chain, by the table
                                         in docs/performance.md and the order in which `rt ci` begins its tasks
@@ -153,7 +154,8 @@ def main():
         running = lambda: subprocess.run(["pgrep", "-f", "rt ci"], stdout=subprocess.DEVNULL).returncode == 0
         seen, counted = watch(running, Path(sys.argv[2]).resolve()), None
     else:
-        gate = subprocess.Popen(["rt", "ci"], cwd=TOP, stdout=sys.stderr)
+        words = ["rt", "ci", *[word for word in sys.argv[1:] if word == "--anew"]]
+        gate = subprocess.Popen(words, cwd=TOP, stdout=sys.stderr)
         seen = watch(lambda: gate.poll() is None, TOP)
         used = resource.getrusage(resource.RUSAGE_CHILDREN)
         counted = used.ru_utime + used.ru_stime

@@ -15,11 +15,11 @@ use Rattle.store_core.specs.declared.kind.FieldKind.TheVariants as field
 use Rattle.store_core.specs.declared.kind.Route.{Route}
 use Rattle.store_core.specs.Tables.{TypeEntry, FieldEntry, field_at}
 use Rattle.store_core.specs.Stores.{StoreMap, field_value}
-use Rattle.routing_expr.specs.Destinations.{EndsWalk, EndsKind, Dest}
-use Rattle.routing_expr.specs.WellFormed.{IsFirstCell}
-use Rattle.routing_expr.specs.Searches.{Lists}
-use Rattle.routing_expr.proofs.GatheringLemmas.{below_suc, Contains-at, Contains-none, Contains-one}
-use Rattle.routing_expr.proofs.KeyLemmas.{keys-rise, key_of_live}
+use Rattle.routing_walks.specs.Destinations.{EndsWalk, EndsKind, Dest}
+use Rattle.routing_walks.specs.WellFormed.{IsFirstCell}
+use Rattle.routing_walks.specs.Sets.{Lists}
+use Rattle.routing_walks.proofs.GatheringLemmas.{below_suc, Contains-at, Contains-none, Contains-one}
+use Rattle.routing_walks.proofs.KeyLemmas.{keys-rise, key_of_live}
 use Rattle.graph_meaning.specs.Fields.Forking.{Forks, HasFork}
 use Rattle.graph_meaning.proofs.fields.ForkingLemmas.{live-with}
 use Rattle.witness_store.specs.Only.{HasTwo}

@@ -23,10 +23,10 @@ use Rattle.store_core.specs.declared.value.Value.TheVariants as value
 use Rattle.store_core.specs.Tables.{TypeEntry, VarEntry, FieldEntry, IsTypeTable, field_at}
 use Rattle.store_core.specs.Stores.{StoreMap, Fits, field_value}
 use Rattle.store_core.proofs.FittingLemmas.{IfSome-from, IsSomeAnd-at}
-use Rattle.routing_expr.specs.Destinations.{IsPointer}
-use Rattle.routing_expr.specs.Gathering.{HasAll}
-use Rattle.routing_expr.specs.WellFormed.{IsBackbone, IsFunctional, IsFirstCell}
-use Rattle.routing_laws.specs.Refuting.{Refutes}
+use Rattle.routing_walks.specs.Destinations.{IsPointer}
+use Rattle.routing_walks.specs.Gathering.{HasAll}
+use Rattle.routing_walks.specs.WellFormed.{IsBackbone, IsFunctional, IsFirstCell}
+use Rattle.routing_walks.specs.Refuting.{Refutes}
 use Rattle.tree_encode.specs.Tracks.{track_count}
 use Rattle.tree_store.proofs.WeighingLemmas.{weight-cells}
 use Rattle.tree_formula.specs.WellEncoded.{well_encoded}

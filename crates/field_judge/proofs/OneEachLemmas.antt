@@ -10,7 +10,7 @@ use Rattle.std.proofs.lemmas.Option.{slice_get_within}
 use Rattle.store_core.specs.declared.kind.VarKind.TheVariants as var
 use Rattle.store_core.specs.Tables.{TypeEntry, VarEntry, IsTypeTable, KnowsVarKind, place_of, AreDistinct, type_names, var_names, var_named, add_var}
 use Rattle.store_core.proofs.Names.{position_none-at, position_none-from}
-use Rattle.routing_laws.specs.Refuting.{IsOneEach}
+use Rattle.routing_walks.specs.Refuting.{IsOneEach}
 use Rattle.tree_store.proofs.SpotsLemmas.{present}
 use Rattle.witness_store.proofs.ListsLemmas.{take-next, length-front}
 use Rattle.field_judge.specs.OneEach.{var_of, vars_from, type_vars}

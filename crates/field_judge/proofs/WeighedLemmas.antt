@@ -14,8 +14,8 @@ use Rattle.ws2s_core.specs.declared.track.Track.{Track}
 use Rattle.store_core.specs.declared.ids.TypeId.{TypeId}
 use Rattle.store_core.specs.declared.ids.VariantId.{VariantId}
 use Rattle.store_core.specs.Tables.{TypeEntry, type_at, count_of_variants, variant_count}
-use Rattle.routing_expr.specs.Gathering.{Gathers, HasAll, Before}
-use Rattle.routing_expr.proofs.GatheringLemmas.{Contains-none, Contains-here, Contains-there, Contains-cases, Gathers-none, Gathers-push, Gathers-alike}
+use Rattle.routing_walks.specs.Gathering.{Gathers, HasAll, Before}
+use Rattle.routing_walks.proofs.GatheringLemmas.{Contains-none, Contains-here, Contains-there, Contains-cases, Gathers-none, Gathers-push, Gathers-alike}
 use Rattle.tree_encode.specs.Tracks.{track_at, variant_track}
 use Rattle.tree_encode.proofs.TracksLemmas.{cond-some}
 use Rattle.tree_store.specs.Weighing.{AreVariantTracks}

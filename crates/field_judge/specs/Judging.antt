@@ -14,7 +14,7 @@ use Rattle.store_core.specs.declared.ids.CellId.{CellId}
 use Rattle.store_core.specs.declared.value.Value.TheVariants as value
 use Rattle.store_core.specs.Tables.{TypeEntry, VarEntry}
 use Rattle.store_core.specs.Stores.{StoreMap, Fits, field_value}
-use Rattle.routing_expr.specs.WellFormed.{IsBackbone, IsFunctional, IsFirstCell}
+use Rattle.routing_walks.specs.WellFormed.{IsBackbone, IsFunctional, IsFirstCell}
 use Rattle.witness_store.specs.Pointers.{IsPointerField}
 use Rattle.tree_encode.specs.Spaces.{guide_of}
 use Rattle.tree_store.specs.Weighing.{AreVariantTracks}

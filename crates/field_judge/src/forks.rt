@@ -2,7 +2,7 @@
 
 ghost use Rattle.std.specs.Prelude.{◌↔◌, ◌<◌, IsTrue, length, IfOk, IfNone, IfSome};
 ghost use Rattle.std.specs.Bool.{OnTrue, OnFalse};
-ghost use Rattle.routing_expr.specs.WellFormed.{IsFirstCell};
+ghost use Rattle.routing_walks.specs.WellFormed.{IsFirstCell};
 ghost use Rattle.graph_meaning.specs.Fields.Forking.{Forks, HasFork};
 
 use routing_expr::destinations;

@@ -5,8 +5,8 @@ ghost use Rattle.store_core.specs.declared.ids.FieldId.{FieldId};
 ghost use Rattle.store_core.specs.declared.ids.CellId.{CellId};
 ghost use Rattle.store_core.specs.Tables.{TypeEntry};
 ghost use Rattle.store_core.specs.Stores.{StoreMap};
-ghost use Rattle.routing_expr.specs.WellFormed.{IsFunctional};
-ghost use Rattle.routing_laws.specs.Refuting.{IsOneEach, Refutes};
+ghost use Rattle.routing_walks.specs.WellFormed.{IsFunctional};
+ghost use Rattle.routing_walks.specs.Refuting.{IsOneEach, Refutes};
 ghost use Rattle.field_judge.specs.OneEach.{type_vars};
 ghost use Rattle.field_judge.specs.Judging.{IsLeastFork};
 

@@ -2,7 +2,7 @@
 
 ghost use Rattle.std.specs.Prelude.{◌≡◌, Some, IfOk, OnOk};
 ghost use Rattle.store_core.specs.Tables.{IsTypeTable};
-ghost use Rattle.routing_expr.specs.Gathering.{Gathers, HasAll};
+ghost use Rattle.routing_walks.specs.Gathering.{Gathers, HasAll};
 ghost use Rattle.field_judge.specs.Weighed.{IsTrackOf, IsVariantTrack};
 
 use std::alloc::{AllocError, Global};

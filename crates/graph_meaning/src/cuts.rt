@@ -4,7 +4,7 @@ ghost use Rattle.std.specs.Prelude.{◌↔◌, ℕ, ◌≤◌};
 ghost use Rattle.gta_theory.specs.Assignments.{Assignment};
 ghost use Rattle.ws2s_core.specs.Satisfaction.{WSat};
 ghost use Rattle.store_core.specs.Stores.{StoreMap};
-ghost use Rattle.routing_expr.specs.CutFaults.{HasDanglingReference, HasShared, HasLeaked, HasWrongField};
+ghost use Rattle.routing_walks.specs.CutFaults.{HasDanglingReference, HasShared, HasLeaked, HasWrongField};
 ghost use Rattle.tree_encode.specs.Layouts.{LaidOut};
 ghost use Rattle.graph_view.specs.declared.view.View.{View};
 ghost use Rattle.graph_view.specs.declared.view.CutCheck.TheVariants as check;

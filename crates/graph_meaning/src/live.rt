@@ -11,7 +11,7 @@ ghost use Rattle.store_core.specs.declared.kind.FieldKind.TheVariants as field;
 ghost use Rattle.store_core.specs.declared.value.Value.TheVariants as value;
 ghost use Rattle.store_core.specs.Tables.{TypeEntry, FieldEntry, VarEntry, KnowsVariant, field_at};
 ghost use Rattle.store_core.specs.Stores.{StoreMap, IsLive, Fits, field_value};
-ghost use Rattle.routing_expr.specs.WellFormed.{IsBackbone};
+ghost use Rattle.routing_walks.specs.WellFormed.{IsBackbone};
 ghost use Rattle.tree_encode.specs.Layouts.{LaidOut};
 ghost use Rattle.graph_view.specs.declared.view.Sym.{Sym};
 ghost use Rattle.graph_view.specs.declared.view.Event.{Event};

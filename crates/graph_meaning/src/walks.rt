@@ -8,7 +8,7 @@ ghost use Rattle.store_core.specs.declared.ids.FieldId.{FieldId};
 ghost use Rattle.store_core.specs.declared.kind.Route.{Route};
 ghost use Rattle.store_core.specs.Tables.{FieldEntry, KnowsRoute, field_at};
 ghost use Rattle.store_core.specs.Stores.{StoreMap, IsLive};
-ghost use Rattle.routing_expr.specs.Walks.{DataAlone, DataAndPointers, IsFollowed};
+ghost use Rattle.routing_walks.specs.Walks.{DataAlone, DataAndPointers, IsFollowed};
 ghost use Rattle.tree_encode.specs.Layouts.{LaidOut};
 ghost use Rattle.graph_view.specs.declared.view.View.{View};
 ghost use Rattle.graph_view.specs.Sights.{sight_of};

@@ -14,7 +14,7 @@ use Rattle.store_core.specs.declared.value.Value.{Value}
 use Rattle.store_core.specs.declared.value.Value.TheVariants as value
 use Rattle.store_core.specs.Tables.{TypeEntry, VarEntry, KnowsVariant, field_at}
 use Rattle.store_core.specs.Stores.{StoreMap, IsLive, FieldFits, Fits, field_value, var_value, put_cell, set_field, remove_cell}
-use Rattle.routing_expr.specs.Regions.{IsClosedUnderFields, IsRest, store_on}
+use Rattle.routing_walks.specs.Regions.{IsClosedUnderFields, IsRest, store_on}
 use Rattle.tree_encode.specs.Positions.{IsPlaced}
 use Rattle.graph_view.specs.declared.view.Sym.{Sym}
 use Rattle.graph_view.specs.declared.view.Sym.TheVariants.{Null, At}

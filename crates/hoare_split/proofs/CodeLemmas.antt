@@ -8,10 +8,10 @@ use Rattle.store_logic.specs.declared.cond.Cond.{Cond}
 use Rattle.store_exec.specs.declared.code.Item.{Item}
 use Rattle.store_exec.specs.declared.code.Code.{Code, roll-Code}
 use Rattle.store_exec.specs.declared.code.Tail.TheVariants as tail
-use Rattle.pale_types.specs.declared.typed.CallParts.{CallParts}
-use Rattle.pale_types.specs.declared.typed.ProcEntry.{ProcEntry}
-use Rattle.pale_types.specs.declared.typed.Stmt.{Stmt}
-use Rattle.pale_types.specs.declared.typed.Stmt.TheVariants as stmt
+use Rattle.pale_typed.specs.declared.typed.CallParts.{CallParts}
+use Rattle.pale_typed.specs.declared.typed.ProcEntry.{ProcEntry}
+use Rattle.pale_typed.specs.declared.typed.Stmt.{Stmt}
+use Rattle.pale_typed.specs.declared.typed.Stmt.TheVariants as stmt
 use Rattle.hoare_split.specs.declared.caller.Caller.{Caller}
 use Rattle.hoare_split.specs.declared.codes.Ending.{Ending}
 use Rattle.hoare_split.specs.declared.reached.Point.{Point}

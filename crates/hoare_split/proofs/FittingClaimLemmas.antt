@@ -23,9 +23,9 @@ use Rattle.pale_text.specs.declared.place.Pos.{Pos}
 use Rattle.pale_calls.specs.declared.actual.Actual.{Actual}
 use Rattle.pale_calls.specs.declared.actual.Actual.TheVariants as actual
 use Rattle.pale_calls.specs.Classes.{class_of, holds_cell, holds_truth, is_logic}
-use Rattle.pale_types.specs.declared.typed.CallParts.{CallParts}
-use Rattle.pale_types.specs.declared.typed.ProcEntry.{ProcEntry}
-use Rattle.pale_types.specs.Fitting.{IsProgramVariable, StatedFits, FillingFits, IsLike, ActualFits, CallFits, ProcFits}
+use Rattle.pale_typed.specs.declared.typed.CallParts.{CallParts}
+use Rattle.pale_typed.specs.declared.typed.ProcEntry.{ProcEntry}
+use Rattle.pale_typed.specs.Fitting.{IsProgramVariable, StatedFits, FillingFits, IsLike, ActualFits, CallFits, ProcFits}
 use Rattle.hoare_fill.specs.declared.putting.Put.{Put}
 use Rattle.hoare_split.specs.Picking.{is_listed, is_awaited}
 use Rattle.hoare_split.specs.Settings.{settings}
@@ -40,7 +40,7 @@ use Rattle.hoare_split.proofs.FittingVariableLemmas.{spent-program, lent-pointer
 
 -- ---- what is put in
 
--- a claim fits where what is put in fits, as pale_types has it for a law
+-- a claim fits where what is put in fits, as claim_laws has it for a law
 abbrev pub PutsFit : Type 0
 PutsFit = (types : List TypeEntry) (theirs vars : List VarEntry) (among : List VarId) (put : Base → Filling) (claim : Assertion) →
     StatedFits types theirs (Contains among) claim →

@@ -8,9 +8,9 @@ use Rattle.store_logic.proofs.ExpandingLists.{all-append}
 use Rattle.store_exec.specs.Fits.{news_of_code}
 use Rattle.pale_tables.specs.Faults.{first_of}
 use Rattle.pale_tables.proofs.KnownRoutes.{both, needed}
-use Rattle.pale_types.specs.declared.typed.ProcEntry.{ProcEntry}
-use Rattle.pale_types.specs.TypedPrograms.{TypedProgram}
-use Rattle.pale_types.specs.Fitting.{ProcFits, ProgramFits}
+use Rattle.pale_typed.specs.declared.typed.ProcEntry.{ProcEntry}
+use Rattle.pale_typed.specs.TypedPrograms.{TypedProgram}
+use Rattle.pale_typed.specs.Fitting.{ProcFits, ProgramFits}
 use Rattle.hoare_split.specs.Picking.{is_left}
 use Rattle.hoare_split.specs.Settings.{settings}
 use Rattle.hoare_split.specs.Flows.{ends, code_of}

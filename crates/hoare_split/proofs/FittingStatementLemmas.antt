@@ -13,11 +13,11 @@ use Rattle.store_exec.specs.declared.code.Item.{Item}
 use Rattle.store_exec.specs.declared.code.Item.TheVariants as item
 use Rattle.store_exec.specs.Fits.{ItemFits, ItemsFit}
 use Rattle.pale_text.specs.declared.place.Pos.{Pos}
-use Rattle.pale_types.specs.declared.typed.ProcEntry.{ProcEntry}
-use Rattle.pale_types.specs.declared.typed.Stmt.{Stmt, roll-Stmt}
-use Rattle.pale_types.specs.declared.typed.Stmt.TheOpen.{Stmt-F}
-use Rattle.pale_types.specs.declared.typed.Stmt.TheFolds.{rec-roll-Stmt, map-Stmt, ind-Stmt}
-use Rattle.pale_types.specs.Fitting.{StatementFitsNode, StatementFits, ProcFits}
+use Rattle.pale_typed.specs.declared.typed.ProcEntry.{ProcEntry}
+use Rattle.pale_typed.specs.declared.typed.Stmt.{Stmt, roll-Stmt}
+use Rattle.pale_typed.specs.declared.typed.Stmt.TheOpen.{Stmt-F}
+use Rattle.pale_typed.specs.declared.typed.Stmt.TheFolds.{rec-roll-Stmt, map-Stmt, ind-Stmt}
+use Rattle.pale_typed.specs.Fitting.{StatementFitsNode, StatementFits, ProcFits}
 use Rattle.hoare_split.specs.Picking.{is_awaited}
 use Rattle.hoare_split.specs.Settings.{settings}
 use Rattle.hoare_split.specs.Flows.{Flow, ends}

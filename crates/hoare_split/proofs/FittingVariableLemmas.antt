@@ -22,9 +22,9 @@ use Rattle.store_exec.specs.Fits.{ItemFits, ItemsFit, IsKnownPointerVar, IsProgr
 use Rattle.pale_calls.specs.declared.class.VarClass.{VarClass}
 use Rattle.pale_calls.specs.declared.class.VarClass.TheVariants as class
 use Rattle.pale_calls.specs.Classes.{class_of, holds_cell, is_logic}
-use Rattle.pale_types.specs.declared.typed.CallParts.{CallParts}
-use Rattle.pale_types.specs.declared.typed.TypedProc.{TypedProc}
-use Rattle.pale_types.specs.Fitting.{IsProgramVariable}
+use Rattle.pale_typed.specs.declared.typed.CallParts.{CallParts}
+use Rattle.pale_typed.specs.declared.typed.TypedProc.{TypedProc}
+use Rattle.pale_typed.specs.Fitting.{IsProgramVariable}
 use Rattle.hoare_split.specs.Picking.{class_at, is_data, is_pointer, is_listed, those, numbered, is_fresh, is_left, is_awaited, is_lent, is_spent, is_gained}
 use Rattle.hoare_split.specs.Picking.{is_argument}
 use Rattle.hoare_split.specs.Settings.{blank, setting, settings}

@@ -4,8 +4,8 @@ use Rattle.std.specs.List.{sum_by}
 use Rattle.std.proofs.lemmas.List.{append_cancel_left}
 use Rattle.store_core.specs.Tables.{VarEntry}
 use Rattle.store_exec.specs.declared.code.Item.{Item}
-use Rattle.pale_types.specs.declared.typed.ProcEntry.{ProcEntry}
-use Rattle.pale_types.specs.declared.typed.Stmt.{Stmt}
+use Rattle.pale_typed.specs.declared.typed.ProcEntry.{ProcEntry}
+use Rattle.pale_typed.specs.declared.typed.Stmt.{Stmt}
 use Rattle.hoare_split.specs.declared.caller.Caller.{Caller}
 use Rattle.hoare_split.specs.declared.rest.Rest.{Rest}
 use Rattle.hoare_split.specs.Flows.{Flow, after_items}

@@ -17,4 +17,3 @@ pub mod FittingClaimLemmas
 pub mod FittingStatementLemmas
 pub mod FittingLemmas
 pub mod PointLemmas
-pub mod StopLemmas

@@ -10,11 +10,11 @@ use Rattle.store_logic.specs.declared.assertion.Assertion.TheVariants as asserti
 use Rattle.store_logic.specs.declared.cond.Cond.{Cond}
 use Rattle.store_exec.specs.declared.code.Item.{Item}
 use Rattle.store_exec.specs.Fits.{news_of_act}
-use Rattle.pale_types.specs.declared.typed.CallParts.{CallParts}
-use Rattle.pale_types.specs.declared.typed.ProcEntry.{ProcEntry}
-use Rattle.pale_types.specs.declared.typed.TypedProc.{TypedProc}
-use Rattle.pale_types.specs.declared.typed.Stmt.{Stmt}
-use Rattle.pale_types.specs.declared.typed.Stmt.TheVariants as stmt
+use Rattle.pale_typed.specs.declared.typed.CallParts.{CallParts}
+use Rattle.pale_typed.specs.declared.typed.ProcEntry.{ProcEntry}
+use Rattle.pale_typed.specs.declared.typed.TypedProc.{TypedProc}
+use Rattle.pale_typed.specs.declared.typed.Stmt.{Stmt}
+use Rattle.pale_typed.specs.declared.typed.Stmt.TheVariants as stmt
 use Rattle.hoare_split.specs.declared.counts.Count.{Count}
 use Rattle.hoare_split.specs.Picking.{those, is_awaited, is_left}
 use Rattle.hoare_split.specs.Flows.{Arrival, Flow, ends, branches}

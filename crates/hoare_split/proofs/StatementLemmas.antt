@@ -9,12 +9,12 @@ use Rattle.store_logic.specs.declared.assertion.Assertion.{Assertion}
 use Rattle.store_logic.specs.declared.cond.Cond.{Cond}
 use Rattle.store_exec.specs.declared.code.Item.{Item}
 use Rattle.store_exec.specs.declared.code.Item.TheVariants as item
-use Rattle.pale_types.specs.declared.typed.CallParts.{CallParts}
-use Rattle.pale_types.specs.declared.typed.ProcEntry.{ProcEntry}
-use Rattle.pale_types.specs.declared.typed.Stmt.{Stmt, roll-Stmt}
-use Rattle.pale_types.specs.declared.typed.Stmt.TheVariants as stmt
-use Rattle.pale_types.specs.declared.typed.Stmt.TheOpen.{Stmt-F}
-use Rattle.pale_types.specs.declared.typed.Stmt.TheFolds.{map-Stmt, fold-roll-Stmt}
+use Rattle.pale_typed.specs.declared.typed.CallParts.{CallParts}
+use Rattle.pale_typed.specs.declared.typed.ProcEntry.{ProcEntry}
+use Rattle.pale_typed.specs.declared.typed.Stmt.{Stmt, roll-Stmt}
+use Rattle.pale_typed.specs.declared.typed.Stmt.TheVariants as stmt
+use Rattle.pale_typed.specs.declared.typed.Stmt.TheOpen.{Stmt-F}
+use Rattle.pale_typed.specs.declared.typed.Stmt.TheFolds.{map-Stmt, fold-roll-Stmt}
 use Rattle.hoare_split.specs.Passages.{Passage, plain, then_next, choice_of, choice}
 use Rattle.hoare_split.specs.Statements.{loop, split, call_at, rules, passage_of, block_of}
 

@@ -3,10 +3,10 @@ use Rattle.std.proofs.Common.{◌≡◌, ℕ, ◌+◌, ◌≤◌, List, [], ◌�
 use Rattle.std.specs.List.{sum_by}
 use Rattle.std.proofs.lemmas.List.Sums.{sum_by-cons}
 use Rattle.store_logic.specs.declared.cond.Cond.{Cond}
-use Rattle.pale_types.specs.declared.typed.Stmt.{Stmt, roll-Stmt, out-Stmt, roll-out-Stmt}
-use Rattle.pale_types.specs.declared.typed.Stmt.TheVariants as stmt
-use Rattle.pale_types.specs.declared.typed.Stmt.TheOpen.{Stmt-F}
-use Rattle.pale_types.specs.declared.typed.Stmt.TheFolds.{map-Stmt, fold-roll-Stmt}
+use Rattle.pale_typed.specs.declared.typed.Stmt.{Stmt, roll-Stmt, out-Stmt, roll-out-Stmt}
+use Rattle.pale_typed.specs.declared.typed.Stmt.TheVariants as stmt
+use Rattle.pale_typed.specs.declared.typed.Stmt.TheOpen.{Stmt-F}
+use Rattle.pale_typed.specs.declared.typed.Stmt.TheFolds.{map-Stmt, fold-roll-Stmt}
 use Rattle.hoare_split.specs.Weights.{weight_rule, weight_of}
 
 weight-form : (s : Stmt) (x : Stmt-F Stmt) → s ≡ roll-Stmt x → weight_of s ≡ weight_rule (map-Stmt Stmt ℕ weight_of x)

@@ -9,9 +9,9 @@ use Rattle.store_logic.specs.declared.region.Region.TheVariants as region
 use Rattle.store_exec.specs.declared.triple.Claim.{Claim}
 use Rattle.pale_calls.specs.declared.actual.Actual.{Actual}
 use Rattle.pale_calls.specs.declared.actual.Actual.TheVariants as actual
-use Rattle.pale_types.specs.declared.typed.CallParts.{CallParts}
-use Rattle.pale_types.specs.declared.typed.ProcEntry.{ProcEntry}
-use Rattle.pale_types.specs.declared.typed.TypedProc.{TypedProc}
+use Rattle.pale_typed.specs.declared.typed.CallParts.{CallParts}
+use Rattle.pale_typed.specs.declared.typed.ProcEntry.{ProcEntry}
+use Rattle.pale_typed.specs.declared.typed.TypedProc.{TypedProc}
 use Rattle.hoare_split.specs.Picking.{class_at, is_data}
 use Rattle.hoare_fill.specs.Putting.{beside, with_puts}
 

@@ -2,8 +2,8 @@
 use Rattle.std.specs.Prelude.{◌≡◌, ◌≤◌, None, List, ◌++◌}
 use Rattle.store_core.specs.Tables.{VarEntry}
 use Rattle.store_exec.specs.declared.code.Item.{Item}
-use Rattle.pale_types.specs.declared.typed.ProcEntry.{ProcEntry}
-use Rattle.pale_types.specs.declared.typed.Stmt.{Stmt}
+use Rattle.pale_typed.specs.declared.typed.ProcEntry.{ProcEntry}
+use Rattle.pale_typed.specs.declared.typed.Stmt.{Stmt}
 use Rattle.hoare_split.specs.declared.caller.Caller.{Caller}
 use Rattle.hoare_split.specs.declared.codes.Ending.{Ending}
 use Rattle.hoare_split.specs.declared.codes.Ending.TheVariants as ending

@@ -12,4 +12,3 @@ pub mod Weights
 pub mod Following
 pub mod Measures
 pub mod Fitting
-pub mod ProgramTexts

@@ -9,8 +9,8 @@ use Rattle.pale_calls.specs.declared.class.VarClass.TheVariants as class
 use Rattle.pale_calls.specs.declared.actual.Actual.{Actual}
 use Rattle.pale_calls.specs.declared.actual.Actual.TheVariants as actual
 use Rattle.pale_calls.specs.Classes.{class_of, holds_cell}
-use Rattle.pale_types.specs.declared.typed.CallParts.{CallParts}
-use Rattle.pale_types.specs.declared.typed.TypedProc.{TypedProc}
+use Rattle.pale_typed.specs.declared.typed.CallParts.{CallParts}
+use Rattle.pale_typed.specs.declared.typed.TypedProc.{TypedProc}
 use Rattle.hoare_split.specs.declared.picking.Pick.{Pick}
 use Rattle.hoare_split.specs.declared.picking.Pick.TheVariants as pick
 

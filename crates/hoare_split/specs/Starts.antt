@@ -3,9 +3,9 @@ use Rattle.std.specs.Prelude.{List, [], Some, None}
 use Rattle.store_core.specs.Tables.{VarEntry}
 use Rattle.store_logic.specs.declared.assertion.Assertion.{Assertion}
 use Rattle.store_exec.specs.declared.triple.Start.{Start}
-use Rattle.pale_types.specs.declared.typed.CallParts.{CallParts}
-use Rattle.pale_types.specs.declared.typed.ProcEntry.{ProcEntry}
-use Rattle.pale_types.specs.declared.typed.TypedProc.{TypedProc}
+use Rattle.pale_typed.specs.declared.typed.CallParts.{CallParts}
+use Rattle.pale_typed.specs.declared.typed.ProcEntry.{ProcEntry}
+use Rattle.pale_typed.specs.declared.typed.TypedProc.{TypedProc}
 use Rattle.hoare_split.specs.Picking.{those, is_fresh, is_spent, is_gained}
 use Rattle.hoare_split.specs.Calls.{returned_by, post_of, on_all, on_part_and_rest}
 

@@ -5,11 +5,11 @@ use Rattle.store_logic.specs.declared.assertion.Assertion.{Assertion}
 use Rattle.store_logic.specs.declared.cond.Cond.{Cond}
 use Rattle.store_exec.specs.declared.code.Item.TheVariants as item
 use Rattle.pale_text.specs.declared.place.Pos.{Pos}
-use Rattle.pale_types.specs.declared.typed.CallParts.{CallParts}
-use Rattle.pale_types.specs.declared.typed.ProcEntry.{ProcEntry}
-use Rattle.pale_types.specs.declared.typed.Stmt.{Stmt}
-use Rattle.pale_types.specs.declared.typed.Stmt.TheOpen.{Stmt-F}
-use Rattle.pale_types.specs.declared.typed.Stmt.TheFolds.{fold-Stmt}
+use Rattle.pale_typed.specs.declared.typed.CallParts.{CallParts}
+use Rattle.pale_typed.specs.declared.typed.ProcEntry.{ProcEntry}
+use Rattle.pale_typed.specs.declared.typed.Stmt.{Stmt}
+use Rattle.pale_typed.specs.declared.typed.Stmt.TheOpen.{Stmt-F}
+use Rattle.pale_typed.specs.declared.typed.Stmt.TheFolds.{fold-Stmt}
 use Rattle.hoare_split.specs.Picking.{is_awaited}
 use Rattle.hoare_split.specs.Settings.{settings}
 use Rattle.hoare_split.specs.Flows.{ends, branches}

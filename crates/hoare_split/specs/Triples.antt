@@ -3,9 +3,9 @@ use Rattle.std.specs.Prelude.{ℕ, ◌+◌, List, [], ◌∷◌, ◌++◌, map, 
 use Rattle.pale_text.specs.declared.place.Pos.{Pos}
 use Rattle.pale_text.specs.declared.refusal.RefusalKind.TheVariants as kind
 use Rattle.pale_tables.specs.Faults.{Fault, need, ◌>>◌, first_of}
-use Rattle.pale_types.specs.declared.typed.ProcEntry.{ProcEntry}
-use Rattle.pale_types.specs.declared.typed.TypedProc.{TypedProc}
-use Rattle.pale_types.specs.TypedPrograms.{TypedProgram}
+use Rattle.pale_typed.specs.declared.typed.ProcEntry.{ProcEntry}
+use Rattle.pale_typed.specs.declared.typed.TypedProc.{TypedProc}
+use Rattle.pale_typed.specs.TypedPrograms.{TypedProgram}
 use Rattle.store_core.specs.Tables.{VarEntry}
 use Rattle.store_exec.specs.declared.triple.Triple.{Triple}
 use Rattle.store_exec.specs.Fits.{news_of_code}

@@ -1,8 +1,8 @@
 -- What falls where code is made: statements are gone through, and what follows them.
 use Rattle.std.specs.Prelude.{ℕ, ◌+◌, sum_by}
-use Rattle.pale_types.specs.declared.typed.Stmt.{Stmt}
-use Rattle.pale_types.specs.declared.typed.Stmt.TheOpen.{Stmt-F}
-use Rattle.pale_types.specs.declared.typed.Stmt.TheFolds.{fold-Stmt}
+use Rattle.pale_typed.specs.declared.typed.Stmt.{Stmt}
+use Rattle.pale_typed.specs.declared.typed.Stmt.TheOpen.{Stmt-F}
+use Rattle.pale_typed.specs.declared.typed.Stmt.TheFolds.{fold-Stmt}
 use Rattle.hoare_split.specs.declared.rest.Rest.{Rest, Exit, Again, Then'}
 use Rattle.hoare_split.specs.declared.codes.Ending.{Ending}
 use Rattle.hoare_split.specs.declared.codes.Ending.TheVariants as ending

@@ -6,7 +6,7 @@ ghost use Rattle.hoare_split.specs.Cuts as cuts;
 use crate::caller::Caller;
 use crate::calls::{handed, on_all, on_part_and_rest, pre_of};
 use crate::picking::{Pick, picked};
-use pale_types::CallParts;
+use pale_typed::CallParts;
 use std::alloc::{AllocError, Global};
 use store_exec::Cut;
 use store_logic::{Assertion, VarList};

@@ -4,7 +4,7 @@ ghost use Rattle.std.specs.Prelude.{◌≡◌};
 ghost use Rattle.hoare_split.specs.Picking.{class_at, is_listed};
 
 use pale_calls::VarClass;
-use pale_types::{Typed, TypedProc};
+use pale_typed::{Typed, TypedProc};
 use store_core::{VarId, VarTable};
 
 /// A procedure with its variables, in its program.

@@ -8,7 +8,7 @@ ghost use Rattle.hoare_split.specs.Calls as calls;
 use crate::caller::{Caller, class_at};
 use hoare_fill::{PutList, fill, pair_actuals, pair_results};
 use pale_calls::{Actual, VarClass};
-use pale_types::CallParts;
+use pale_typed::CallParts;
 use std::alloc::{AllocError, Global};
 use store_core::{VarId, VarTable};
 use store_exec::{Claim, ClaimList};

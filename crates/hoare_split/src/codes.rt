@@ -19,7 +19,7 @@ use crate::reached::{Point, Reached};
 use crate::rest::Rest;
 use crate::settings::set_picked;
 use pale_text::Pos;
-use pale_types::{CallParts, Stmt};
+use pale_typed::{CallParts, Stmt};
 use plain_data::Boxed;
 use std::alloc::{AllocError, Global};
 use store_exec::{Code, ItemList, Tail};

@@ -1,7 +1,5 @@
-//! The triples of a typed program: its procedures, cut at loops, at `split` and at calls; and the text of a program with all
-//! that is looked at before it is judged or run: its tokens, the grammar, the static rules, and the sizes of its triples.
+//! The triples of a typed program: its procedures, cut at loops, at `split` and at calls.
 //!
-//! `specs/ProgramTexts.antt` says what a text is read as, and what is refused first.
 //! `specs/Triples.antt` says which triples a program has and what is refused, `specs/Statements.antt` what each statement means
 //! for them, `specs/Flows.antt` where the code from a cut point leads, `specs/Cuts.antt` what is checked at each cut, and
 //! `specs/Starts.antt` what holds where a triple starts. `specs/Fitting.antt` says when triples fit their program.
@@ -17,7 +15,6 @@ mod measuring;
 mod picking;
 mod plain;
 mod points;
-mod program;
 mod reached;
 mod rest;
 mod settings;
@@ -30,6 +27,5 @@ pub use calls::handed;
 pub use laws::triples_of_programs_that_fit_fit;
 pub use picking::{Pick, is_argument};
 pub use points::TripleList;
-pub use program::{WholeProgram, read_program};
 pub use settings::set_picked;
 pub use splitting::{caller_at, split};

@@ -12,7 +12,7 @@ use crate::counts::Count;
 use crate::picking::{Pick, picked_count};
 use crate::plain::is_cut;
 use pale_text::{Pos, Refusal};
-use pale_types::{CallParts, Stmt};
+use pale_typed::{CallParts, Stmt};
 
 /// The first fault of the triples from a place of the text on.
 pub(crate) type Found = Option<Refusal>;

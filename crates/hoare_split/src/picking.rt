@@ -5,7 +5,7 @@ ghost use Rattle.hoare_split.specs.Picking.{is_handed, is_argument, test_of, tho
 
 use crate::caller::{class_at, is_listed};
 use pale_calls::{Actual, VarClass};
-use pale_types::{CallParts, TypedProc};
+use pale_typed::{CallParts, TypedProc};
 use std::alloc::{AllocError, Global};
 use store_core::{VarId, VarTable};
 use store_logic::VarList;

@@ -2,10 +2,10 @@
 
 ghost use Rattle.std.specs.Prelude.{◌≡◌, ◌++◌, List, not, is_some, IfSome, IfOk, OnOk};
 ghost use Rattle.store_core.specs.Tables.{VarEntry};
-ghost use Rattle.pale_types.specs.declared.typed.ProcEntry.{ProcEntry};
+ghost use Rattle.pale_typed.specs.declared.typed.ProcEntry.{ProcEntry};
 ghost use Rattle.hoare_split.specs.Statements.{passage_of, block_of};
 
-use pale_types::Stmt;
+use pale_typed::Stmt;
 use std::alloc::{AllocError, Global};
 use store_exec::{Item, ItemList};
 

@@ -13,7 +13,7 @@ use crate::reached::Reached;
 use crate::rest::Rest;
 use crate::starts::{call_start, entry_start, plain_start};
 use pale_text::Pos;
-use pale_types::{Stmt, StmtList};
+use pale_typed::{Stmt, StmtList};
 use plain_data::Items;
 use std::alloc::{AllocError, Global};
 use store_exec::{ItemList, Start, Triple};

@@ -1,7 +1,7 @@
 //! What follows a statement, up to the next cut.
 
 use pale_text::Pos;
-use pale_types::Stmt;
+use pale_typed::Stmt;
 use store_logic::Assertion;
 
 /// What follows statements: others, and then what follows those, or a cut. Each block of a text that is gone through is one link.

@@ -2,7 +2,7 @@
 
 ghost use Rattle.std.specs.Prelude.{◌≡◌, None, slice_get, option_map, IfSome, IfOk, IfErr, OnOk, All};
 ghost use Rattle.pale_tables.specs.Faults.{IsStop};
-ghost use Rattle.pale_types.specs.Fitting.{ProgramFits};
+ghost use Rattle.pale_typed.specs.Fitting.{ProgramFits};
 ghost use Rattle.hoare_split.specs.Fitting.{FitsProgram, IsShort};
 ghost use Rattle.hoare_split.specs.Triples.{split_fault, triples_of};
 ghost use Rattle.hoare_split.specs.Following.{procs_of, entry_of};
@@ -12,7 +12,7 @@ use crate::laws::triples_of_programs_that_fit_fit;
 use crate::measuring::first_fault;
 use crate::points::{TripleList, split_procedure};
 use pale_text::TextStop;
-use pale_types::Typed;
+use pale_typed::Typed;
 use std::alloc::Global;
 
 /// A procedure of the program, with its variables; `None` exactly for an unknown one.

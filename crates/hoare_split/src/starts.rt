@@ -6,7 +6,7 @@ ghost use Rattle.hoare_split.specs.Starts as starts;
 use crate::caller::Caller;
 use crate::calls::{on_all, on_part_and_rest, post_of, returned};
 use crate::picking::{Pick, picked};
-use pale_types::CallParts;
+use pale_typed::CallParts;
 use std::alloc::{AllocError, Global};
 use store_exec::Start;
 use store_logic::{Assertion, VarList};

@@ -2,22 +2,22 @@
 
 ghost use Rattle.std.specs.Prelude.{◌≡◌, None, IfOk, IfErr, OnOk, length};
 ghost use Rattle.pale_tables.specs.Faults.{IsStop};
-ghost use Rattle.pale_assertions.specs.Arguments.{truth_argument_fault, cell_argument_fault, set_argument_fault, argument_fault, arguments_fault};
-ghost use Rattle.pale_assertions.specs.Arguments.{truth_argument, cell_argument, set_argument, argument_of, arguments_of};
-ghost use Rattle.pale_assertions.specs.Arguments.{pred_named, applied_fault, applied_to, use_fault, use_of};
+ghost use Rattle.pale_vocabulary.specs.Arguments.{truth_argument_fault, cell_argument_fault, set_argument_fault, argument_fault, arguments_fault};
+ghost use Rattle.pale_vocabulary.specs.Arguments.{truth_argument, cell_argument, set_argument, argument_of, arguments_of};
+ghost use Rattle.pale_vocabulary.specs.Arguments.{pred_named, applied_fault, applied_to, use_fault, use_of};
 
-use crate::vocabulary::Vocabulary;
 use pale_syntax::{Name, Path};
 use pale_tables::need;
 use pale_terms::{Scope, Sort, read_path, read_set_path};
 use pale_text::{Refusal, RefusalKind, TextStop};
+use pale_vocabulary::Vocabulary;
 use plain_data::Items;
 use std::alloc::Global;
 use store_core::TypeTable;
 use store_logic::{Arg, ArgList, Assertion};
 
 /// An argument for a truth value.
-#[tactic(auto, unfolding(crate::specs::Arguments::truth_argument_fault, crate::specs::Arguments::truth_argument))]
+#[tactic(auto, unfolding(pale_vocabulary::specs::Arguments::truth_argument_fault, pale_vocabulary::specs::Arguments::truth_argument))]
 fn read_truth_argument(
     alloc: Global,
     types: &TypeTable,
@@ -34,7 +34,7 @@ fn read_truth_argument(
 }
 
 /// An argument for a cell.
-#[tactic(auto, unfolding(crate::specs::Arguments::cell_argument_fault, crate::specs::Arguments::cell_argument))]
+#[tactic(auto, unfolding(pale_vocabulary::specs::Arguments::cell_argument_fault, pale_vocabulary::specs::Arguments::cell_argument))]
 fn read_cell_argument(
     alloc: Global,
     types: &TypeTable,
@@ -57,7 +57,7 @@ fn read_cell_argument(
 }
 
 /// An argument for a set.
-#[tactic(auto, unfolding(crate::specs::Arguments::set_argument_fault, crate::specs::Arguments::set_argument))]
+#[tactic(auto, unfolding(pale_vocabulary::specs::Arguments::set_argument_fault, pale_vocabulary::specs::Arguments::set_argument))]
 fn read_set_argument(scope: &Scope, sort: Sort, path: &Path) -> Result<Arg, TextStop>
     ensures met { OnOk result (set_argument_fault scope.now sort path.now ≡ None) }
     ensures arg { IfOk result (λ arg. arg ≡ set_argument scope.now path.now) }
@@ -113,7 +113,7 @@ fn read_arguments(
 }
 
 /// The predicate of this place, of so many arguments as it has parameters.
-#[tactic(auto, unfolding(crate::specs::Arguments::applied_fault, crate::specs::Arguments::applied_to))]
+#[tactic(auto, unfolding(pale_vocabulary::specs::Arguments::applied_fault, pale_vocabulary::specs::Arguments::applied_to))]
 fn read_applied(
     alloc: Global,
     vocabulary: &Vocabulary,
@@ -148,7 +148,7 @@ fn find_pred(vocabulary: &Vocabulary, name: &Name) -> Option<usize>
 ///
 /// `Refused` is `unknown` at a name of no predicate, `arity` there where it has more or fewer parameters, and then the first
 /// fault of the arguments.
-#[tactic(auto, unfolding(crate::specs::Arguments::use_fault, crate::specs::Arguments::use_of))]
+#[tactic(auto, unfolding(pale_vocabulary::specs::Arguments::use_fault, pale_vocabulary::specs::Arguments::use_of))]
 pub fn read_use(
     alloc: Global,
     vocabulary: &Vocabulary,

@@ -2,18 +2,18 @@
 
 ghost use Rattle.std.specs.Prelude.{◌≡◌, None, length, map, take, IfOk, IfErr, OnOk};
 ghost use Rattle.pale_tables.specs.Faults.{first_of, ◌>>◌, IsStop};
-ghost use Rattle.pale_assertions.specs.declared.connectives.Connective.TheVariants.{Imp};
-ghost use Rattle.pale_assertions.specs.Assertions.{assertion_fault, typed_assertion, inside_fault, governed};
-ghost use Rattle.pale_assertions.specs.Connectives.{connected, chained, negated};
-ghost use Rattle.pale_assertions.specs.Quantifiers.{bound_type, inside};
+ghost use Rattle.pale_vocabulary.specs.declared.connective.Connective.TheVariants.{Imp};
+ghost use Rattle.pale_vocabulary.specs.Assertions.{assertion_fault, typed_assertion, inside_fault, governed};
+ghost use Rattle.pale_vocabulary.specs.Connectives.{connected, chained, negated};
+ghost use Rattle.pale_vocabulary.specs.Quantifiers.{bound_type, inside};
 
 use crate::atoms::read_alone;
-use crate::connectives::{Connective, connect, connect_all, negate, quantify};
+use crate::connectives::{connect, connect_all, negate, quantify};
 use crate::quantifiers::bind;
-use crate::vocabulary::Vocabulary;
 use pale_syntax::{Assertion as SourceAssertion, Quantifier};
 use pale_terms::Scope;
 use pale_text::TextStop;
+use pale_vocabulary::{Connective, Vocabulary};
 use plain_data::Items;
 use std::alloc::Global;
 use store_core::TypeId;
@@ -142,7 +142,7 @@ fn read_quantified(
 ///
 /// `Refused` is the first fault from the left.
 #[cycle(assertions)]
-#[tactic(auto, using(crate::proofs::AssertionLemmas::assertion_forms, pale_tables::proofs::FaultLemmas::stops, pale_tables::proofs::FaultLemmas::tails))]
+#[tactic(auto, using(pale_vocabulary::proofs::AssertionLemmas::assertion_forms, pale_tables::proofs::FaultLemmas::stops, pale_tables::proofs::FaultLemmas::tails))]
 pub fn read_assertion(
     alloc: Global,
     vocabulary: &Vocabulary,

@@ -3,13 +3,13 @@
 ghost use Rattle.std.specs.Prelude.{◌≡◌, false, None, IfOk, IfErr, OnOk};
 ghost use Rattle.pale_tables.specs.Faults.{IsStop};
 ghost use Rattle.pale_terms.specs.Terms.{compared_fault, variant_test_fault};
-ghost use Rattle.pale_assertions.specs.Atoms.{truth_fault, truth_of, member_fault, member_of, subset_fault, subset_of, walk_fault, walk_of};
-ghost use Rattle.pale_assertions.specs.Atoms.{sets_fault, sets_of, same_of, is_of, is_in_type};
-ghost use Rattle.pale_assertions.specs.Assertions.{has_parts, assertion_fault, typed_assertion};
+ghost use Rattle.pale_vocabulary.specs.Atoms.{truth_fault, truth_of, member_fault, member_of, subset_fault, subset_of, walk_fault, walk_of};
+ghost use Rattle.pale_vocabulary.specs.Atoms.{sets_fault, sets_of, same_of, is_of, is_in_type};
+ghost use Rattle.pale_vocabulary.specs.Assertions.{assertion_fault, typed_assertion};
+ghost use Rattle.pale_assertions.specs.Parts.{has_parts};
 
 use crate::arguments::read_use;
 use crate::connectives::negate;
-use crate::vocabulary::Vocabulary;
 use pale_syntax::{
     Assertion as SourceAssertion, Name, Path, Route as SourceRoute, Term as SourceTerm,
 };
@@ -19,12 +19,13 @@ use pale_terms::{
     read_variant_test,
 };
 use pale_text::{Pos, Refusal, RefusalKind, TextStop};
+use pale_vocabulary::Vocabulary;
 use std::alloc::Global;
 use store_core::{TypeId, TypeTable};
 use store_logic::Assertion;
 
 /// A path alone, whose truth is asked.
-#[tactic(auto, unfolding(crate::specs::Atoms::truth_fault, crate::specs::Atoms::truth_of))]
+#[tactic(auto, unfolding(pale_vocabulary::specs::Atoms::truth_fault, pale_vocabulary::specs::Atoms::truth_of))]
 fn read_truth(
     alloc: Global,
     types: &TypeTable,
@@ -41,7 +42,7 @@ fn read_truth(
 }
 
 /// `t = u`
-#[tactic(auto, unfolding(crate::specs::Atoms::same_of))]
+#[tactic(auto, unfolding(pale_vocabulary::specs::Atoms::same_of))]
 fn read_same(
     alloc: Global,
     types: &TypeTable,
@@ -69,7 +70,7 @@ fn is_in_type(ty: Option<TypeId>, set: Sort) -> bool
 }
 
 /// `t in S`
-#[tactic(auto, unfolding(crate::specs::Atoms::member_fault, crate::specs::Atoms::member_of))]
+#[tactic(auto, unfolding(pale_vocabulary::specs::Atoms::member_fault, pale_vocabulary::specs::Atoms::member_of))]
 fn read_member(
     alloc: Global,
     types: &TypeTable,
@@ -93,7 +94,7 @@ fn read_member(
 }
 
 /// `S sub U` of two names.
-#[tactic(auto, unfolding(crate::specs::Atoms::sets_fault, crate::specs::Atoms::sets_of))]
+#[tactic(auto, unfolding(pale_vocabulary::specs::Atoms::sets_fault, pale_vocabulary::specs::Atoms::sets_of))]
 fn read_subset_of(
     scope: &Scope,
     path: &Path,
@@ -128,7 +129,7 @@ fn read_subset(
 }
 
 /// `t <R> u`
-#[tactic(auto, unfolding(crate::specs::Atoms::walk_fault, crate::specs::Atoms::walk_of))]
+#[tactic(auto, unfolding(pale_vocabulary::specs::Atoms::walk_fault, pale_vocabulary::specs::Atoms::walk_of))]
 fn read_walk(
     alloc: Global,
     vocabulary: &Vocabulary,
@@ -149,7 +150,7 @@ fn read_walk(
 }
 
 /// `t : v`
-#[tactic(auto, unfolding(crate::specs::Atoms::is_of))]
+#[tactic(auto, unfolding(pale_vocabulary::specs::Atoms::is_of))]
 fn read_is(
     alloc: Global,
     types: &TypeTable,
@@ -167,7 +168,7 @@ fn read_is(
 }
 
 /// An assertion that has no others in it, of any form.
-#[tactic(auto, using(crate::proofs::AssertionLemmas::assertion_forms, pale_tables::proofs::FaultLemmas::stops))]
+#[tactic(auto, using(pale_vocabulary::proofs::AssertionLemmas::assertion_forms, pale_tables::proofs::FaultLemmas::stops))]
 pub fn read_alone(
     alloc: Global,
     vocabulary: &Vocabulary,

@@ -1,22 +1,14 @@
 //! Connectives.
 
 ghost use Rattle.std.specs.Prelude.{◌≡◌, IfOk};
-ghost use Rattle.pale_assertions.specs.Connectives.{connected, chained, negated, quantified, quantified_once};
+ghost use Rattle.pale_vocabulary.specs.Connectives.{connected, chained, negated, quantified, quantified_once};
 
 use pale_syntax::{Quantifier, QuantifierKind};
+use pale_vocabulary::Connective;
 use plain_data::{Boxed, Items};
 use std::alloc::{AllocError, Global};
 use store_core::TypeId;
 use store_logic::Assertion;
-
-/// What joins two assertions.
-#[derive(Clone, Copy, Debug, PartialEq, Eq)]
-pub enum Connective {
-    And,
-    Or,
-    Imp,
-    Iff,
-}
 
 /// Two assertions joined.
 pub fn connect(

@@ -1,6 +1,6 @@
 //! Assertions of a program with their names looked up: what they are typed as, or their first fault.
 //!
-//! `specs/Assertions.antt` has a rule for each form, `specs/Quantifiers.antt` and `specs/Arguments.antt` what they stand on.
+//! `pale_vocabulary` has the rules, one for each form.
 #![tactic(auto)]
 
 mod arguments;
@@ -8,7 +8,5 @@ mod assertions;
 mod atoms;
 mod connectives;
 mod quantifiers;
-mod vocabulary;
 
 pub use assertions::read_assertion;
-pub use vocabulary::{PredHeads, Vocabulary};

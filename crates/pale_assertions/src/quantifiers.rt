@@ -3,7 +3,7 @@
 ghost use Rattle.std.specs.Prelude.{◌≡◌, ◌++◌, ◌∷◌, [], None, length, map, take, IfOk, IfErr, OnOk, OnErr};
 ghost use Rattle.pale_tables.specs.Faults.{IsStop};
 ghost use Rattle.pale_terms.specs.Scopes.{new_name_fault};
-ghost use Rattle.pale_assertions.specs.Quantifiers.{sort_of, type_found, bound_entry, bound_type, names_fault, quantifier_fault, inside};
+ghost use Rattle.pale_vocabulary.specs.Quantifiers.{sort_of, type_found, bound_entry, bound_type, names_fault, quantifier_fault, inside};
 
 use pale_syntax::{Name, Quantifier};
 use pale_tables::need;
@@ -23,7 +23,7 @@ fn sort_of(of_sets: bool, ty: TypeId) -> Sort
 }
 
 /// The type of the cells.
-#[tactic(auto, unfolding(crate::specs::Quantifiers::type_found))]
+#[tactic(auto, unfolding(pale_vocabulary::specs::Quantifiers::type_found))]
 fn find_type(types: &TypeTable, quantifier: &Quantifier) -> Option<TypeId>
     ensures { result ≡ type_found types.now quantifier.now }
 {
@@ -65,7 +65,7 @@ fn bind_names(scope: &mut Scope, sort: Sort, names: &[Name]) -> Result<(), TextS
 /// # Errors
 ///
 /// `Refused` is `duplicate` at a name that is visible already, and then `unknown` at a type that isn't there.
-#[tactic(auto, unfolding(crate::specs::Quantifiers::quantifier_fault))]
+#[tactic(auto, unfolding(pale_vocabulary::specs::Quantifiers::quantifier_fault))]
 pub fn bind(
     scope: &mut Scope,
     types: &TypeTable,

@@ -19,17 +19,17 @@ use Rattle.store_logic.specs.Fits.{FitsIn}
 use Rattle.pale_tables.specs.Faults.{Fault, first_of}
 use Rattle.pale_tables.proofs.KnownRoutes.{both, needed, position-within}
 use Rattle.pale_terms.specs.Visibles.{Entry}
-use Rattle.pale_assertions.specs.declared.vocabulary.Vocabulary.{Vocabulary}
-use Rattle.pale_assertions.specs.declared.connectives.Connective.{Connective}
-use Rattle.pale_assertions.specs.declared.connectives.Connective.TheVariants as connective
-use Rattle.pale_assertions.specs.Atoms.{same_of}
-use Rattle.pale_assertions.specs.Connectives.{connected, chained, quantified_once}
-use Rattle.pale_assertions.specs.Quantifiers.{type_found, bound_type, sort_of, inside, quantifier_fault}
-use Rattle.pale_assertions.specs.Assertions.{each_in, typing_rules, fault_rules, assertion_fault, typed_assertion}
-use Rattle.pale_assertions.proofs.AssertionLemmas.{fault_form, typed_form}
+use Rattle.pale_vocabulary.specs.declared.vocabulary.Vocabulary.{Vocabulary}
+use Rattle.pale_vocabulary.specs.declared.connective.Connective.{Connective}
+use Rattle.pale_vocabulary.specs.declared.connective.Connective.TheVariants as connective
+use Rattle.pale_vocabulary.specs.Atoms.{same_of}
+use Rattle.pale_vocabulary.specs.Connectives.{connected, chained, quantified_once}
+use Rattle.pale_vocabulary.specs.Quantifiers.{type_found, bound_type, sort_of, inside, quantifier_fault}
+use Rattle.pale_vocabulary.specs.Assertions.{each_in, typing_rules, fault_rules, assertion_fault, typed_assertion}
+use Rattle.pale_vocabulary.proofs.AssertionLemmas.{fault_form, typed_form}
 use Rattle.pale_fitting.specs.Standing.{sort_in, StandFor, pred_sorts}
 use Rattle.pale_fitting.specs.Naming.{AreNamesOf}
-use Rattle.pale_fitting.proofs.FitForms.{Fits-True, Fits-False, Fits-Not, Fits-And, Fits-Or, Fits-Imp, Fits-Iff, Fits-Ex, Fits-All, Fits-ExSet, Fits-AllSet}
+use Rattle.claim_laws.proofs.FitForms.{Fits-True, Fits-False, Fits-Not, Fits-And, Fits-Or, Fits-Imp, Fits-Iff, Fits-Ex, Fits-All, Fits-ExSet, Fits-AllSet}
 use Rattle.pale_fitting.proofs.BindingLemmas.{deeper, deeper-preds, binds}
 use Rattle.pale_fitting.proofs.AtomFitLemmas.{truth-of-fits, same-of-fits, is-of-fits, member-of-fits, subset-of-fits, walk-of-fits, use-of-fits}
 

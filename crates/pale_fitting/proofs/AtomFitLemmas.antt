@@ -22,16 +22,16 @@ use Rattle.pale_terms.specs.declared.terms.TypedTerm.{TypedTerm}
 use Rattle.pale_terms.specs.Visibles.{Entry}
 use Rattle.pale_terms.specs.Scopes.{meaning_of}
 use Rattle.pale_terms.specs.Terms.{typed_path, typed_term, term_at, term_in, cell_type, compared_fault, variant_test_fault}
-use Rattle.pale_assertions.specs.declared.vocabulary.Vocabulary.{Vocabulary}
-use Rattle.pale_assertions.specs.Heads.{Head, head_names, params_at}
-use Rattle.pale_assertions.specs.Arguments.{truth_argument_fault, truth_argument, cell_argument_fault, cell_argument, set_argument_fault, set_argument}
-use Rattle.pale_assertions.specs.Arguments.{argument_fault, argument_of, arguments_fault, arguments_of, pred_named, applied_fault, applied_to}
-use Rattle.pale_assertions.specs.Arguments.{use_fault, use_of}
-use Rattle.pale_assertions.specs.Atoms.{truth_fault, truth_of, same_of, is_in_type, member_fault, member_of, sets_fault, sets_of, subset_fault, subset_of}
-use Rattle.pale_assertions.specs.Atoms.{walk_fault, walk_of, is_of}
+use Rattle.pale_vocabulary.specs.declared.vocabulary.Vocabulary.{Vocabulary}
+use Rattle.pale_vocabulary.specs.Heads.{Head, head_names, params_at}
+use Rattle.pale_vocabulary.specs.Arguments.{truth_argument_fault, truth_argument, cell_argument_fault, cell_argument, set_argument_fault, set_argument}
+use Rattle.pale_vocabulary.specs.Arguments.{argument_fault, argument_of, arguments_fault, arguments_of, pred_named, applied_fault, applied_to}
+use Rattle.pale_vocabulary.specs.Arguments.{use_fault, use_of}
+use Rattle.pale_vocabulary.specs.Atoms.{truth_fault, truth_of, same_of, is_in_type, member_fault, member_of, sets_fault, sets_of, subset_fault, subset_of}
+use Rattle.pale_vocabulary.specs.Atoms.{walk_fault, walk_of, is_of}
 use Rattle.pale_fitting.specs.Standing.{sort_in, StandFor, pred_sorts}
 use Rattle.pale_fitting.specs.Naming.{AreNamesOf}
-use Rattle.pale_fitting.proofs.FitForms.{Fits-False, Fits-Truth, Fits-Is, Fits-Same, Fits-Member, Fits-Subset, Fits-Walk, Fits-Pred}
+use Rattle.claim_laws.proofs.FitForms.{Fits-False, Fits-Truth, Fits-Is, Fits-Same, Fits-Member, Fits-Subset, Fits-Walk, Fits-Pred}
 use Rattle.pale_fitting.proofs.RouteFitLemmas.{route-fits}
 use Rattle.pale_fitting.proofs.StandingLemmas.{meaning-fits}
 use Rattle.pale_fitting.proofs.TermFitLemmas.{IsNameOfSet, set-name, set-path-name, cell-sort, one-cell-type, one-set-type, one-mixed-type, same-number}

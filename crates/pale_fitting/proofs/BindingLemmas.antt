@@ -15,8 +15,8 @@ use Rattle.pale_terms.specs.declared.scope.Origin.TheVariants as origin
 use Rattle.pale_terms.specs.Sorts.{kept}
 use Rattle.pale_terms.specs.Visibles.{Entry}
 use Rattle.pale_terms.specs.Scopes.{base_of}
-use Rattle.pale_assertions.specs.Heads.{Head}
-use Rattle.pale_assertions.specs.Quantifiers.{bound_entry}
+use Rattle.pale_vocabulary.specs.Heads.{Head}
+use Rattle.pale_vocabulary.specs.Quantifiers.{bound_entry}
 use Rattle.pale_fitting.specs.Standing.{sort_in, HasItsSort, StandFor, scope_with, IsVariable, AreVariables}
 
 -- ---- variables

@@ -10,11 +10,11 @@ use Rattle.store_logic.specs.Fits.{FitsIn, PredsFit}
 use Rattle.pale_tables.specs.declared.type_names.TypeNames.{TypeNames}
 use Rattle.pale_tables.proofs.KnownRoutes.{both}
 use Rattle.pale_terms.specs.Visibles.{Entry}
-use Rattle.pale_assertions.specs.Heads.{Head}
-use Rattle.pale_assertions.specs.Assertions.{assertion_fault, typed_assertion}
-use Rattle.pale_predicates.specs.declared.predicates.Declared.{Declared}
-use Rattle.pale_predicates.specs.Parameters.{sort_of}
-use Rattle.pale_predicates.specs.Predicates.{bracketed_fault, params_of, with_pred, predicate_fault, predicates_fault, nothing_with, declared_by}
+use Rattle.pale_vocabulary.specs.Heads.{Head}
+use Rattle.pale_vocabulary.specs.Assertions.{assertion_fault, typed_assertion}
+use Rattle.pale_vocabulary.specs.declared.vocabulary.Declared.{Declared}
+use Rattle.pale_vocabulary.specs.Parameters.{sort_of}
+use Rattle.pale_vocabulary.specs.Predicates.{bracketed_fault, params_of, with_pred, predicate_fault, predicates_fault, nothing_with, declared_by}
 use Rattle.pale_fitting.specs.Standing.{sort_in, pred_sorts}
 use Rattle.pale_fitting.specs.Naming.{AreNamesOf}
 use Rattle.pale_fitting.specs.Declaring.{DeclarationsFit}

@@ -5,7 +5,6 @@ pub mod BindingLemmas
 pub mod CodeFitLemmas
 pub mod DeclarationLemmas
 pub mod ExpansionLemmas
-pub mod FitForms
 pub mod FoundLemmas
 pub mod NamingLemmas
 pub mod ParameterLemmas

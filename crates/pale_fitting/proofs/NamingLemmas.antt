@@ -12,7 +12,7 @@ use Rattle.store_core.specs.declared.ids.TypeId.{TypeId}
 use Rattle.store_core.specs.declared.ids.VariantId.{VariantId}
 use Rattle.store_core.specs.declared.kind.FieldKind.{FieldKind}
 use Rattle.store_core.specs.Tables.{TypeEntry, FieldEntry, KnowsType, KnowsVariant, place_of, fields_of}
-use Rattle.routing_expr.specs.Walks.{DataAndPointers, IsFollowed}
+use Rattle.routing_walks.specs.Walks.{DataAndPointers, IsFollowed}
 use Rattle.store_logic.specs.Fits.{HasFieldNamed, IsBoolField}
 use Rattle.pale_tables.specs.declared.type_names.TypeNames.{TypeNames}
 use Rattle.pale_tables.specs.Names.{each_once}

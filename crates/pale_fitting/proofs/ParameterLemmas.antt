@@ -5,7 +5,7 @@ use Rattle.pale_syntax.specs.declared.tree.declaration.PredicateParameter.{Predi
 use Rattle.store_core.specs.Tables.{TypeEntry}
 use Rattle.store_logic.specs.Sorts as logic
 use Rattle.store_logic.proofs.ExpandingLists.{slice_get-seam}
-use Rattle.pale_predicates.specs.Parameters as parameters
+use Rattle.pale_vocabulary.specs.Parameters as parameters
 use Rattle.pale_fitting.specs.Standing.{sort_in, StandFor}
 
 -- parameters of these sorts after those before them

@@ -6,8 +6,8 @@ use Rattle.store_logic.specs.Expansion.{expansion}
 use Rattle.store_logic.specs.Uses.{CanExpand}
 use Rattle.pale_syntax.specs.declared.tree.assertion.Assertion as source
 use Rattle.pale_terms.specs.Visibles.{Entry}
-use Rattle.pale_assertions.specs.Assertions.{assertion_fault, typed_assertion}
-use Rattle.pale_predicates.specs.declared.predicates.Declared.{Declared}
+use Rattle.pale_vocabulary.specs.Assertions.{assertion_fault, typed_assertion}
+use Rattle.pale_vocabulary.specs.declared.vocabulary.Declared.{Declared}
 use Rattle.pale_fitting.specs.Standing.{AreVariables, pred_sorts, scope_with}
 use Rattle.pale_fitting.specs.Declaring.{DeclarationsFit}
 use Rattle.pale_fitting.proofs.BindingLemmas.{variables-stand}

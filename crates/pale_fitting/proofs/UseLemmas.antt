@@ -27,8 +27,8 @@ use Rattle.store_logic.proofs.ExpandingForms.{names-ExSet, names-AllSet, uses-Tr
 use Rattle.store_logic.proofs.ExpandingForms.{uses-Subset, uses-Walk, uses-Pred, uses-Not, uses-And, uses-Or, uses-Imp, uses-Iff, uses-Ex}
 use Rattle.store_logic.proofs.ExpandingForms.{uses-All, uses-ExSet, uses-AllSet}
 use Rattle.store_logic.proofs.ExpandingLists.{slice_get-seam, all-append}
-use Rattle.pale_fitting.proofs.FitForms.{Fits-Truth, Fits-Is, Fits-Same, Fits-Member, Fits-Subset, Fits-Walk, Fits-Pred, Fits-Not, Fits-And}
-use Rattle.pale_fitting.proofs.FitForms.{Fits-Or, Fits-Imp, Fits-Iff, Fits-Ex, Fits-All, Fits-ExSet, Fits-AllSet}
+use Rattle.claim_laws.proofs.FitForms.{Fits-Truth, Fits-Is, Fits-Same, Fits-Member, Fits-Subset, Fits-Walk, Fits-Pred, Fits-Not, Fits-And}
+use Rattle.claim_laws.proofs.FitForms.{Fits-Or, Fits-Imp, Fits-Iff, Fits-Ex, Fits-All, Fits-ExSet, Fits-AllSet}
 
 -- ---- lists
 

@@ -1,7 +1,7 @@
 -- When what a program declares besides its procedures fits.
 use Rattle.std.specs.Prelude.{reverse}
 use Rattle.store_logic.specs.Fits.{PredsFit}
-use Rattle.pale_predicates.specs.declared.predicates.Declared.{Declared}
+use Rattle.pale_vocabulary.specs.declared.vocabulary.Declared.{Declared}
 use Rattle.pale_fitting.specs.Standing.{pred_sorts}
 use Rattle.pale_fitting.specs.Naming.{AreNamesOf}
 

@@ -2,7 +2,7 @@
 use Rattle.std.specs.Prelude.{ℕ, IsTrue, List, IfSome}
 use Rattle.store_core.specs.declared.ids.TypeId.{TypeId}
 use Rattle.store_core.specs.Tables.{TypeEntry, KnowsType, KnowsVariant}
-use Rattle.routing_expr.specs.Walks.{DataAndPointers, IsFollowed}
+use Rattle.routing_walks.specs.Walks.{DataAndPointers, IsFollowed}
 use Rattle.store_logic.specs.Fits.{HasFieldNamed, IsBoolField}
 use Rattle.pale_tables.specs.declared.type_names.TypeNames.{TypeNames}
 use Rattle.pale_tables.specs.declared.type_names.Followed.TheVariants as followed

@@ -12,7 +12,7 @@ use Rattle.pale_terms.specs.declared.scope.Origin.TheVariants as origin
 use Rattle.pale_terms.specs.Sorts.{kept}
 use Rattle.pale_terms.specs.Visibles.{Entry}
 use Rattle.pale_terms.specs.Scopes.{base_of}
-use Rattle.pale_assertions.specs.Heads.{Head}
+use Rattle.pale_vocabulary.specs.Heads.{Head}
 
 -- the same sort, as assertions have it
 abbrev pub sort_in : Sort → logic.Sort

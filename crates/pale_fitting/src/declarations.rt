@@ -10,7 +10,7 @@ ghost use Rattle.pale_tables.specs.declared.type_names.TypeNames.{TypeNames};
 ghost use Rattle.pale_tables.specs.declared.type_names.Followed.TheVariants as followed;
 ghost use Rattle.pale_tables.specs.Routes.{route_fault, route_of};
 ghost use Rattle.pale_tables.specs.Types.{names_in, type_table};
-ghost use Rattle.pale_predicates.specs.Predicates.{predicates_fault, declared_by, nothing_with};
+ghost use Rattle.pale_vocabulary.specs.Predicates.{predicates_fault, declared_by, nothing_with};
 ghost use Rattle.pale_fitting.specs.Naming.{AreNamesOf};
 ghost use Rattle.pale_fitting.specs.Declaring.{DeclarationsFit};
 

@@ -7,9 +7,9 @@ ghost use Rattle.pale_modes.specs.Written.{Wrote, WroteAtMost};
 use crate::Status;
 use crate::writing::say;
 use pale_io::{Sink, WriteStop};
-use pale_replay::push_number;
 use pale_text::{Refusal, TextStop};
 use std::alloc::{AllocError, Global};
+use store_words::push_number;
 
 /// The line of a refused text: its first fault and where it stands.
 fn refused_line(alloc: Global, refusal: &Refusal) -> Result<Vec<u8>, AllocError>

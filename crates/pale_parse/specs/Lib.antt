@@ -1,3 +1,4 @@
+pub mod ParseSizes
 pub mod ParseTable
 pub mod TableLaws
 pub mod Productions

@@ -2,7 +2,7 @@
 
 ghost use Rattle.std.specs.Prelude.{◌≡◌, [], ◌++◌, ◌∷◌, None, length, map, IfOk, IfErr, OnOk};
 ghost use Rattle.pale_tables.specs.Faults.{IsStop};
-ghost use Rattle.pale_predicates.specs.Parameters.{name_of, type_of, sort_of, param_entry, scope_of, type_fault, sort_fault, parameter_fault, parameters_fault};
+ghost use Rattle.pale_vocabulary.specs.Parameters.{name_of, type_of, sort_of, param_entry, scope_of, type_fault, sort_fault, parameter_fault, parameters_fault};
 
 use pale_syntax::{Name, PredicateParameter};
 use pale_terms::{Origin, Scope, Sort, Visible};
@@ -23,7 +23,7 @@ fn name_of(parameter: &PredicateParameter) -> &Name
 }
 
 /// The type of this name.
-#[tactic(auto, unfolding(crate::specs::Parameters::type_fault, crate::specs::Parameters::type_of))]
+#[tactic(auto, unfolding(pale_vocabulary::specs::Parameters::type_fault, pale_vocabulary::specs::Parameters::type_of))]
 fn read_type(types: &TypeTable, ty: &Name) -> Result<TypeId, TextStop>
     ensures met { OnOk result (type_fault types.now ty.now ≡ None) }
     ensures ty { IfOk result (λ found. found ≡ type_of types.now ty.now) }
@@ -36,7 +36,7 @@ fn read_type(types: &TypeTable, ty: &Name) -> Result<TypeId, TextStop>
 }
 
 /// What a parameter stands for.
-#[tactic(auto, unfolding(crate::specs::Parameters::sort_fault))]
+#[tactic(auto, unfolding(pale_vocabulary::specs::Parameters::sort_fault))]
 fn read_sort(types: &TypeTable, parameter: &PredicateParameter) -> Result<Sort, TextStop>
     ensures met { OnOk result (sort_fault types.now parameter.now ≡ None) }
     ensures sort { IfOk result (λ sort. sort ≡ sort_of types.now parameter.now) }
@@ -50,7 +50,7 @@ fn read_sort(types: &TypeTable, parameter: &PredicateParameter) -> Result<Sort, 
 }
 
 /// A parameter after those before it.
-#[tactic(auto, unfolding(crate::specs::Parameters::parameter_fault))]
+#[tactic(auto, unfolding(pale_vocabulary::specs::Parameters::parameter_fault))]
 fn read_parameter(
     types: &TypeTable,
     scope: &mut Scope,

@@ -4,31 +4,24 @@ ghost use Rattle.std.specs.Prelude.{◌≡◌, [], None, length, map, IfOk, IfEr
 ghost use Rattle.store_core.specs.Tables.{place_of};
 ghost use Rattle.pale_tables.specs.Faults.{need, IsStop};
 ghost use Rattle.pale_tables.specs.Names.{is_new, repeated_fault};
-ghost use Rattle.pale_assertions.specs.Heads.{head_names};
-ghost use Rattle.pale_assertions.specs.Assertions.{typed_assertion};
+ghost use Rattle.pale_vocabulary.specs.Heads.{head_names};
+ghost use Rattle.pale_vocabulary.specs.Assertions.{typed_assertion};
 ghost use Rattle.pale_text.specs.declared.refusal.RefusalKind.TheVariants as kind;
-ghost use Rattle.pale_predicates.specs.Predicates.{bracketed_fault, with_parts, with_pred, predicate_fault};
-ghost use Rattle.pale_predicates.specs.Predicates.{predicates_fault, declared_by, nothing_with};
+ghost use Rattle.pale_vocabulary.specs.Predicates.{bracketed_fault, with_parts, with_pred, predicate_fault};
+ghost use Rattle.pale_vocabulary.specs.Predicates.{predicates_fault, declared_by, nothing_with};
 
 use crate::parameters::read_parameters;
-use pale_assertions::{PredHeads, Vocabulary, read_assertion};
+use pale_assertions::read_assertion;
 use pale_syntax::{Bracketed, Name, PredicateDeclaration};
 use pale_tables::{Names, TypeNames, need};
 use pale_terms::{Scope, Sort};
 use pale_text::{Refusal, RefusalKind, TextStop};
+use pale_vocabulary::{Declared, PredHeads, Vocabulary};
 use plain_data::Items;
 use std::alloc::{AllocError, Global};
 use store_core::TypeTable;
 use store_expand::SizedPreds;
 use store_logic::{Assertion, PredDef};
-
-/// What a program declares besides its procedures: what assertions may use, and the predicates with their bodies.
-#[derive(Drop)]
-pub struct Declared {
-    pub vocabulary: Vocabulary,
-    /// In each body predicates stand as uses of those before it.
-    pub preds: SizedPreds,
-}
 
 /// Looks at a name after those before it.
 fn need_new(before: &Names, name: &Name) -> Result<(), TextStop>
@@ -69,7 +62,7 @@ pub fn check_predicate_names(
 ///
 /// `Refused` is the first fault of the assertion, and then `big-formula` at its `[` where it has more than 65,536 nodes with its
 /// predicates put in, the nodes of each side of a `<=>` counted twice. Its size is found before anything is built.
-#[tactic(auto, unfolding(crate::specs::Predicates::bracketed_fault))]
+#[tactic(auto, unfolding(pale_vocabulary::specs::Predicates::bracketed_fault))]
 pub fn read_bracketed(
     alloc: Global,
     declared: &Declared,
@@ -111,7 +104,7 @@ fn add_predicate(
 }
 
 /// A predicate after those before it.
-#[tactic(auto, unfolding(crate::specs::Predicates::predicate_fault, crate::specs::Predicates::with_pred))]
+#[tactic(auto, unfolding(pale_vocabulary::specs::Predicates::predicate_fault, pale_vocabulary::specs::Predicates::with_pred))]
 fn read_predicate(
     alloc: Global,
     declared: &mut Declared,

@@ -33,16 +33,17 @@ use Rattle.pale_print_laws.proofs.FromAtoms.{relation_sound, name_relation_sound
 use Rattle.pale_print_laws.proofs.FromAtoms.{path_alone_step_sound, name_rest_sound, primary_sound}
 use Rattle.pale_print_laws.proofs.FromAssertions.{and_chain_sound, next_negation_sound, or_chain_sound, next_and_chain_sound}
 use Rattle.pale_print_laws.proofs.FromAssertions.{iff_sound, next_implication_sound, implication_sound, implied_sound}
-use Rattle.pale_print_laws.proofs.FromAssertions.{negation_sound, set_word_sound, next_bound_sound, quantified_sound}
-use Rattle.pale_print_laws.proofs.FromAssertions.{bracketed_sound}
+use Rattle.pale_print_laws.proofs.FromAssertions.{negation_sound}
+use Rattle.pale_print_laws.proofs.FromQuantifiers.{set_word_sound, next_bound_sound, quantified_sound}
+use Rattle.pale_print_laws.proofs.FromQuantifiers.{bracketed_sound}
 use Rattle.pale_print_laws.proofs.FromCalls.{argument_sound, next_argument_sound, argued_sound, logic_arguments_sound}
 use Rattle.pale_print_laws.proofs.FromCalls.{keep_sound, arguments_sound, next_result_sound, call_rest_sound, value_sound}
 use Rattle.pale_print_laws.proofs.FromCalls.{new_variant_sound}
 use Rattle.pale_print_laws.proofs.FromStatements.{block_sound, else_sound, statement_sound}
 use Rattle.pale_print_laws.proofs.FromTypes.{all_and, field_sound, variant_sound, type_sound, predicate_parameter_sound}
 use Rattle.pale_print_laws.proofs.FromTypes.{next_predicate_parameter_sound, predicate_parameters_sound, predicate_sound}
-use Rattle.pale_print_laws.proofs.FromProcedures.{parameter_sound, next_parameter_sound, parameters_sound, local_sound}
-use Rattle.pale_print_laws.proofs.FromProcedures.{returns_sound, logic_parameter_sound, next_logic_parameter_sound, logic_sound}
+use Rattle.pale_print_laws.proofs.FromVariables.{parameter_sound, next_parameter_sound, parameters_sound, local_sound}
+use Rattle.pale_print_laws.proofs.FromVariables.{returns_sound, logic_parameter_sound, next_logic_parameter_sound, logic_sound}
 use Rattle.pale_print_laws.proofs.FromProcedures.{pre_sound, post_sound, procedure_sound, declaration_sound}
 
 -- ---- each part makes what it means

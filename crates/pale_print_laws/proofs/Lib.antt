@@ -8,10 +8,12 @@ pub mod ConditionShapes
 pub mod ConditionSizes
 pub mod Conditions
 pub mod Connectives
+pub mod ConnectivePlaces
 pub mod DeclarationSizes
 pub mod Framework
 pub mod FromAssertionPlaces
 pub mod FromAssertions
+pub mod FromQuantifiers
 pub mod FromAtoms
 pub mod FromCalls
 pub mod FromConditionPlaces
@@ -22,6 +24,7 @@ pub mod FromMeaning
 pub mod FromNames
 pub mod FromParts
 pub mod FromProcedures
+pub mod FromVariables
 pub mod FromPrograms
 pub mod FromRoutePlaces
 pub mod FromRoutes

@@ -22,7 +22,7 @@ use Rattle.store_text.specs.Lines.{lines_of, parts_of}
 use Rattle.store_text.specs.Spelling.{all_of, number_of, number_after, type_of, field_of, given_of, var_line, cell_in, cell_line, line_in, line_of}
 use Rattle.store_text.specs.Saying.{Said, nothing_said, say_var, say_cell, cell_said, value_for, var_holds, is_said}
 use Rattle.store_text.specs.Reading.{reading, read_text, read_lines, read_end, after_end, say_line, checked, store_said, next_after, is_misnamed}
-use Rattle.store_text.proofs.ReadFits.{cases, result_cases, bool_cases}
+use Rattle.store_text.proofs.ReadValues.{cases, result_cases, bool_cases}
 
 -- ---- lists
 

@@ -11,8 +11,8 @@ use Rattle.std.proofs.Common.{length-append, subst, codes, IfSome}
 use Rattle.std.proofs.Math.Seq.{take-append_seam, drop-append_seam}
 use Rattle.std.proofs.lemmas.List.{append_cancel_right, append-nil, take-append-drop}
 use Rattle.std.proofs.lemmas.List.Elements.{Contains-append_cases}
-use Rattle.routing_expr.proofs.GatheringLemmas.{Contains-one}
 use Rattle.store_core.proofs.Names.{position-cons}
+use Rattle.routing_walks.proofs.GatheringLemmas.{Contains-one}
 use Rattle.store_text.specs.Lines.{lines_of}
 use Rattle.store_text.specs.Spelling.{number_of, number_after}
 use Rattle.pale_replay.specs.Parts.{cut_line, HasNoCut, IsCutAs, IsTripleLine}

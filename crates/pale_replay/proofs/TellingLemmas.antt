@@ -14,10 +14,10 @@ use Rattle.store_text.specs.Reading.{reading, read_text}
 use Rattle.store_exec.specs.declared.triple.Triple.{Triple}
 use Rattle.store_exec.specs.Fits.{TripleFits}
 use Rattle.pale_text.specs.declared.refusal.TextStop.{TextStop}
-use Rattle.pale_types.specs.declared.typed.ProcEntry.{ProcEntry}
-use Rattle.pale_types.specs.TypedPrograms.{TypedProgram}
+use Rattle.pale_typed.specs.declared.typed.ProcEntry.{ProcEntry}
+use Rattle.pale_typed.specs.TypedPrograms.{TypedProgram}
 use Rattle.hoare_split.specs.Fitting.{FitsProgram, IsShort}
-use Rattle.hoare_split.specs.ProgramTexts.{IsReadAs, IsStopOf}
+use Rattle.whole_program.specs.ProgramTexts.{IsReadAs, IsStopOf}
 use Rattle.pale_replay.specs.declared.answer.Answer.{Answer}
 use Rattle.pale_replay.specs.declared.answer.Replay.{Replay}
 use Rattle.pale_replay.specs.declared.answer.Answer.TheVariants.{StoreRefused}

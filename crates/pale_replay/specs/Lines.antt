@@ -5,39 +5,21 @@ use Rattle.std.specs.Fmt.{decimal}
 use Rattle.store_core.specs.declared.ids.VarId.{VarId}
 use Rattle.store_core.specs.declared.ids.CellId.{CellId}
 use Rattle.store_core.specs.declared.ids.FieldId.{FieldId}
-use Rattle.store_core.specs.Tables.{TypeEntry, VarEntry, field_at, var_at}
-use Rattle.routing_expr.specs.declared.fault.Place.{Place}
-use Rattle.routing_expr.specs.declared.fault.Place.TheVariants as place
-use Rattle.routing_expr.specs.declared.fault.WfFault.{WfFault}
-use Rattle.routing_expr.specs.declared.fault.WfFault.TheVariants as fault
-use Rattle.store_exec.specs.declared.cause.Cause.{Cause}
-use Rattle.store_exec.specs.declared.cause.Cause.TheVariants as cause
+use Rattle.store_core.specs.Tables.{TypeEntry, VarEntry, var_at}
+use Rattle.routing_walks.specs.declared.fault.Place.{Place}
+use Rattle.routing_walks.specs.declared.fault.Place.TheVariants as place
+use Rattle.routing_walks.specs.declared.fault.WfFault.{WfFault}
+use Rattle.routing_walks.specs.declared.fault.WfFault.TheVariants as fault
 use Rattle.store_text.specs.declared.fault.StoreKind.{StoreKind}
 use Rattle.store_text.specs.Faults.{word_of}
+use Rattle.store_words.specs.Words.{word_of_cause, field_name}
 use Rattle.pale_replay.specs.declared.answer.Answer.{Answer}
 use Rattle.pale_replay.specs.declared.answer.Answer.TheVariants as answer
-
--- the word that is printed for a cause
-abbrev pub word_of_cause : Cause → List ℕ
-word_of_cause cause.Null = codes "null"
-word_of_cause cause.Dangling = codes "dangling"
-word_of_cause cause.DoubleFree = codes "double-free"
-word_of_cause cause.DanglingRef = codes "dangling-ref"
-word_of_cause cause.Shared = codes "shared"
-word_of_cause cause.Leak = codes "leak"
-word_of_cause cause.Field = codes "field"
-word_of_cause cause.Escape = codes "escape"
-word_of_cause cause.Post = codes "post"
-word_of_cause cause.Assert = codes "assert"
-word_of_cause cause.Variant = codes "variant"
 
 -- ---- faults of a store
 
 abbrev pub var_name : List VarEntry → VarId → List ℕ
 var_name vars v = option_map_or (λ e. e.name) (var_at vars v) []
-
-abbrev pub field_name : List TypeEntry → FieldId → List ℕ
-field_name types f = option_map_or (λ e. e.name) (field_at types f) []
 
 -- `cell N`
 abbrev pub cell_text : CellId → List ℕ

@@ -8,9 +8,9 @@ use Rattle.store_text.specs.declared.fault.StoreKind.TheVariants.{Missing, Synta
 use Rattle.store_text.specs.Lines.{lines_of}
 use Rattle.store_text.specs.Reading.{read_text}
 use Rattle.pale_text.specs.declared.refusal.TextStop.{TextStop}
-use Rattle.pale_types.specs.declared.typed.ProcEntry.{ProcEntry}
-use Rattle.pale_types.specs.TypedPrograms.{TypedProgram}
-use Rattle.hoare_split.specs.ProgramTexts.{IsReadAs, IsStopOf}
+use Rattle.pale_typed.specs.declared.typed.ProcEntry.{ProcEntry}
+use Rattle.pale_typed.specs.TypedPrograms.{TypedProgram}
+use Rattle.whole_program.specs.ProgramTexts.{IsReadAs, IsStopOf}
 use Rattle.pale_replay.specs.declared.answer.Answer.{Answer}
 use Rattle.pale_replay.specs.declared.answer.Answer.TheVariants.{StoreRefused}
 use Rattle.pale_replay.specs.Parts.{IsCutAs, HasNoCut, IsTripleLine}

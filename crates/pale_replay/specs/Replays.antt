@@ -2,8 +2,8 @@
 use Rattle.std.specs.Prelude.{◌≡◌, ℕ, List, Some, None, slice_get}
 use Rattle.store_core.specs.Tables.{TypeEntry, VarEntry}
 use Rattle.store_core.specs.Stores.{StoreMap}
-use Rattle.routing_expr.specs.declared.fault.WfFault.{WfFault}
-use Rattle.routing_expr.specs.WellFormed.{IsWellFormed, IsFirstFault}
+use Rattle.routing_walks.specs.declared.fault.WfFault.{WfFault}
+use Rattle.routing_walks.specs.WellFormed.{IsWellFormed, IsFirstFault}
 use Rattle.store_exec.specs.declared.cause.Cause.{Cause}
 use Rattle.store_exec.specs.declared.outcome.Outcome.TheVariants as outcome
 use Rattle.store_exec.specs.declared.triple.Cut.{Cut}

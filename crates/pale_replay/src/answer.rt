@@ -1,6 +1,6 @@
 //! What is said of a text that is replayed.
 
-use routing_expr::WfFault;
+use routing_walks::WfFault;
 use store_core::ByteList;
 use store_exec::Cause;
 use store_text::StoreKind;

@@ -11,5 +11,4 @@ mod replaying;
 mod stores;
 
 pub use answer::{Answer, Replay};
-pub use lines::{field_name, push_number, word_of};
 pub use replaying::replay;

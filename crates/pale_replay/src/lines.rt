@@ -2,44 +2,16 @@
 
 ghost use Rattle.std.specs.Prelude.{◌≡◌, ◌++◌, codes, IfOk, OnOk};
 ghost use Rattle.std.specs.Fmt.{decimal};
-ghost use Rattle.pale_replay.specs.Lines.{word_of_cause, var_name, field_name, cell_text, field_text, place_text, fault_text, line_of, store_refused_line};
+ghost use Rattle.store_words.specs.Words.{word_of_cause};
+ghost use Rattle.pale_replay.specs.Lines.{var_name, cell_text, field_text, place_text, fault_text, line_of, store_refused_line};
 
 use crate::answer::{Answer, Replay};
-use routing_expr::{Place, WfFault};
+use routing_walks::{Place, WfFault};
 use std::alloc::{AllocError, Global};
 use store_core::{ByteList, CellId, FieldId, TypeTable, VarId, VarTable};
 use store_exec::Cause;
 use store_text::StoreKind;
-
-/// The word that is written for a cause.
-pub fn word_of(cause: Cause) -> &'static str
-    ensures { result.now ≡ word_of_cause cause }
-{
-    match cause {
-        Cause::Null => "null",
-        Cause::Dangling => "dangling",
-        Cause::DoubleFree => "double-free",
-        Cause::DanglingRef => "dangling-ref",
-        Cause::Shared => "shared",
-        Cause::Leak => "leak",
-        Cause::Field => "field",
-        Cause::Escape => "escape",
-        Cause::Post => "post",
-        Cause::Assert => "assert",
-        Cause::Variant => "variant",
-    }
-}
-
-/// Writes the number in decimal.
-///
-/// # Errors
-///
-/// Want of memory.
-pub fn push_number(alloc: Global, text: &mut Vec<u8>, number: u64) -> Result<(), AllocError>
-    ensures { OnOk result (text.new.items ≡ text.old.items ++ decimal number) }
-{
-    text.extend_from_slice(number.to_string(alloc)?.as_bytes())
-}
+use store_words::{field_name, push_number, word_of};
 
 /// `cell N`
 fn push_cell(alloc: Global, text: &mut Vec<u8>, cell: CellId) -> Result<(), AllocError>
@@ -47,13 +19,6 @@ fn push_cell(alloc: Global, text: &mut Vec<u8>, cell: CellId) -> Result<(), Allo
 {
     text.extend_from_slice(b"cell ")?;
     push_number(alloc, text, u64::from(cell.0))
-}
-
-/// The name of a field; nothing for an unknown one.
-pub fn field_name(types: &TypeTable, field: FieldId) -> &[u8]
-    ensures { result.now ≡ field_name types.now field }
-{
-    types.field_name(field).unwrap_or(b"")
 }
 
 fn var_name(vars: &VarTable, var: VarId) -> &[u8]

@@ -9,11 +9,11 @@ use crate::answer::Replay;
 use crate::lines::{store_refused, told};
 use crate::parts::{cut_text, split_line, triple_in};
 use crate::stores::replay_store;
-use hoare_split::{WholeProgram, read_program};
 use pale_text::TextStop;
 use std::alloc::{AllocError, Global};
 use store_exec::Triple;
 use store_text::{StoreKind, read_store, read_stores_fit};
+use whole_program::{WholeProgram, read_program};
 
 /// What is said of a store text in a triple of the program. The text begins at line 2 of its part.
 fn replay_text(

@@ -9,7 +9,8 @@ ghost use Rattle.pale_replay.specs.Replays.{Replays};
 ghost use Rattle.pale_replay.specs.Running.{CanBeRun};
 
 use crate::answer::Answer;
-use routing_expr::{well_formed, well_formed_stores_are_fresh};
+use routing_expr::well_formed;
+use routing_walks::well_formed_stores_are_fresh;
 use std::alloc::{AllocError, Global};
 use store_core::{Store, TypeTable, VarTable};
 use store_exec::{Outcome, Triple, at_cut, codes_keep_stores_fitting, meets, run};

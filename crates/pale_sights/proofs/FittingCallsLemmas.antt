@@ -32,7 +32,7 @@ use Rattle.pale_calls.specs.declared.actual.Actual.TheVariants as actual
 use Rattle.pale_calls.specs.Classes.{class_of, type_in, is_same_class, holds_cell, holds_truth}
 use Rattle.pale_calls.specs.Calls as calls
 use Rattle.pale_calls.specs.Calls.{kind_named, is_of_type, results_fault, arguments_fault, argument_fault, with_argument, actual_of, may_be_handed}
-use Rattle.pale_sights.specs.Fitting.{kind_at, cell_in, cells_in}
+use Rattle.pale_typed.specs.Variables.{kind_at, cell_in, cells_in}
 
 -- ---- names in lists
 

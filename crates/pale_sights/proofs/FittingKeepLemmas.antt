@@ -19,7 +19,7 @@ use Rattle.pale_calls.specs.declared.actual.Actual.TheVariants as actual
 use Rattle.pale_calls.specs.Classes.{class_of, holds_cell}
 use Rattle.pale_calls.specs.Calls as calls
 use Rattle.pale_calls.specs.Calls.{cell_name, allowed_each, actual_of}
-use Rattle.pale_sights.specs.Fitting.{kind_at, cell_in, cells_in}
+use Rattle.pale_typed.specs.Variables.{kind_at, cell_in, cells_in}
 use Rattle.pale_sights.proofs.FittingNamesLemmas.{Passes, IsOpen, AreOpen, IsPassed}
 use Rattle.pale_sights.proofs.FittingCallsLemmas.{Stands, stands-kind, named-apart, differs, none-is, none-first, none-second, ArgumentStands}
 

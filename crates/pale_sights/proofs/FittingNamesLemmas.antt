@@ -33,18 +33,18 @@ use Rattle.pale_terms.specs.declared.scope.Origin.TheVariants as origin
 use Rattle.pale_terms.specs.Sorts.{kept}
 use Rattle.pale_terms.specs.Visibles.{Entry}
 use Rattle.pale_terms.specs.Scopes.{base_of}
-use Rattle.pale_assertions.specs.Heads.{Head}
-use Rattle.pale_assertions.specs.Assertions.{assertion_fault, typed_assertion}
-use Rattle.pale_predicates.specs.declared.predicates.Declared.{Declared}
+use Rattle.pale_vocabulary.specs.Heads.{Head}
+use Rattle.pale_vocabulary.specs.Assertions.{assertion_fault, typed_assertion}
+use Rattle.pale_vocabulary.specs.declared.vocabulary.Declared.{Declared}
 use Rattle.pale_fitting.specs.Standing.{sort_in, HasItsSort, StandFor, IsVariable, AreVariables, pred_sorts, scope_with}
 use Rattle.pale_fitting.specs.Declaring.{DeclarationsFit}
-use Rattle.pale_fitting.proofs.FitForms.{Fits-Truth, Fits-Is, Fits-Same, Fits-Member, Fits-Subset, Fits-Walk, Fits-Pred, Fits-Not, Fits-And}
-use Rattle.pale_fitting.proofs.FitForms.{Fits-Or, Fits-Imp, Fits-Iff, Fits-Ex, Fits-All, Fits-ExSet, Fits-AllSet}
+use Rattle.claim_laws.proofs.FitForms.{Fits-Truth, Fits-Is, Fits-Same, Fits-Member, Fits-Subset, Fits-Walk, Fits-Pred, Fits-Not, Fits-And}
+use Rattle.claim_laws.proofs.FitForms.{Fits-Or, Fits-Imp, Fits-Iff, Fits-Ex, Fits-All, Fits-ExSet, Fits-AllSet}
 use Rattle.pale_fitting.proofs.UseLemmas.{class_of}
 use Rattle.pale_fitting.proofs.BindingLemmas.{variables-stand}
 use Rattle.pale_fitting.proofs.AssertionFitLemmas.{assertion-fits}
 use Rattle.pale_fitting.proofs.ExpansionLemmas.{expansion-fits}
-use Rattle.pale_sights.specs.Fitting.{NameMayBe}
+use Rattle.claim_laws.specs.Claims.{NameMayBe}
 
 -- ---- the classes of the variables in what fits
 

@@ -25,7 +25,7 @@ use Rattle.pale_tables.proofs.RouteLemmas.{fault_form}
 use Rattle.pale_fitting.specs.Naming.{AreNamesOf}
 use Rattle.pale_fitting.proofs.NamingLemmas.{names-of}
 use Rattle.pale_fitting.proofs.RouteFitLemmas.{route-fits}
-use Rattle.pale_sights.specs.Fitting.{KindFits, FieldsFit}
+use Rattle.pale_typed.specs.Variables.{KindFits, FieldsFit}
 
 -- ---- a route over data fields is one over data and pointer fields
 

@@ -16,7 +16,7 @@ use Rattle.pale_fitting.specs.Standing.{IsCodeVariable, AreCodeVariables}
 use Rattle.pale_fitting.proofs.UseLemmas.{slice_get-within}
 use Rattle.pale_sights.specs.declared.sights.Heading.{Heading}
 use Rattle.pale_sights.specs.Sights.{numbers, seen, first_result, first_local, first_logic, heading_sight, body_sight, vars_of}
-use Rattle.pale_sights.specs.Fitting.{kind_at}
+use Rattle.pale_typed.specs.Variables.{kind_at}
 use Rattle.pale_sights.proofs.FittingNamesLemmas.{IsOpen, AreOpen, IsPassed}
 use Rattle.pale_sights.proofs.FittingKeepLemmas.{IsNamedVariable}
 

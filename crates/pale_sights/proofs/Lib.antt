@@ -7,5 +7,4 @@ pub mod FittingNamesLemmas
 pub mod FittingKeepLemmas
 pub mod FittingSightLemmas
 pub mod FittingCallsLemmas
-pub mod FittingPutLemmas
 pub mod FittingRouteLemmas

@@ -1,17 +1,14 @@
--- What a procedure declares before its body, its claims and the numbers of its variables: and what is refused first, in the order
--- parameters, results, logic variables, `pre`, `post`.
+-- What a procedure declares before its body, and the numbers of its variables: and what is refused first, in the order parameters,
+-- results, logic variables.
 use Rattle.std.specs.Prelude.{ℕ, List, [], map, length}
 use Rattle.pale_syntax.specs.declared.tree.declaration.Procedure.{Procedure}
 use Rattle.store_core.specs.Tables.{TypeEntry, VarEntry}
 use Rattle.pale_tables.specs.Faults.{Fault, ◌>>◌}
-use Rattle.pale_predicates.specs.declared.predicates.Declared.{Declared}
 use Rattle.pale_sights.specs.declared.sights.Heading.{Heading}
 use Rattle.pale_sights.specs.declared.sights.Frame.{Frame}
-use Rattle.pale_sights.specs.declared.headings.Claims.{Claims}
 use Rattle.pale_sights.specs.declared.headings.Lists.{Lists}
 use Rattle.pale_sights.specs.Variables.{variable_of, logic_of, variables_fault, logics_fault, with_names, with_logic_names}
-use Rattle.pale_sights.specs.Sights.{numbers, first_result, first_local, first_logic, pre_sight, post_sight, frame_of}
-use Rattle.pale_sights.specs.Stated.{stated_or_true, stated_fault}
+use Rattle.pale_sights.specs.Sights.{numbers, first_result, first_local, first_logic, frame_of}
 
 -- ---- the variables
 
@@ -42,15 +39,8 @@ heading_fault types p =
     variables_fault types [] p.parameters
     >> variables_fault types (with_names [] p.parameters) p.results >> logics_fault types (result_names p) p.logics
 
--- ---- `pre` and `post`
+-- ---- the numbers of the variables of each kind
 
-abbrev pub claims_of : Declared → Heading → Procedure → Claims
-claims_of declared h p = record { pre = stated_or_true declared (pre_sight h) p.pre; post = stated_or_true declared (post_sight h) p.post }
-
-unfoldable pub claims_fault : Declared → Heading → Procedure → Fault
-claims_fault declared h p = stated_fault declared (pre_sight h) p.pre >> stated_fault declared (post_sight h) p.post
-
--- the numbers of the variables of each kind
 abbrev pub lists_of : Heading → List VarEntry → Lists
 lists_of h locals = record {
   params = numbers 0 h.params;

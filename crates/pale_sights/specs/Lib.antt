@@ -2,6 +2,4 @@ pub mod Variables
 pub mod Formals
 pub mod Sights
 pub mod Framing
-pub mod Stated
 pub mod Headings
-pub mod Fitting

@@ -1,13 +1,13 @@
 -- What each place of a procedure sees of its variables. In the table parameters, results, locals and logic variables follow
 -- one another.
 use Rattle.std.specs.Prelude.{ℕ, ◌+◌, Bool, true, false, List, [], ◌∷◌, ◌++◌, length}
-use Rattle.store_core.specs.declared.ids.VarId.{VarId}
 use Rattle.store_core.specs.Tables.{VarEntry}
 use Rattle.pale_terms.specs.declared.scope.Origin.TheVariants as origin
 use Rattle.pale_terms.specs.Sorts.{kept}
 use Rattle.pale_terms.specs.Visibles.{Entry}
 use Rattle.pale_sights.specs.declared.sights.Heading.{Heading}
 use Rattle.pale_sights.specs.declared.sights.Frame.{Frame}
+pub use Rattle.pale_typed.specs.Variables.{numbers}
 
 -- ---- numbers
 
@@ -19,11 +19,6 @@ first_local h = first_result h + length h.results
 
 abbrev pub first_logic : Heading → ℕ
 first_logic h = first_local h + h.locals
-
--- the numbers of variables, the first of which has this one
-abbrev pub numbers : ℕ → List VarEntry → List VarId
-numbers number [] = []
-numbers number (v ∷ vars) = record { 0 = number } ∷ numbers (number + 1) vars
 
 -- ---- what is visible
 

@@ -11,7 +11,7 @@ use Rattle.store_core.specs.declared.kind.VarKind.TheVariants as var
 use Rattle.store_core.specs.Tables.{TypeEntry, VarEntry}
 use Rattle.pale_tables.specs.Faults.{Fault, need, ◌>>◌}
 use Rattle.pale_tables.specs.Names.{is_new}
-use Rattle.pale_predicates.specs.Parameters.{type_of, type_fault}
+use Rattle.pale_vocabulary.specs.Parameters.{type_of, type_fault}
 
 -- ---- parameters, results and locals; a type that isn't there, which is refused, counts as the first
 

@@ -1,30 +1,17 @@
-//! What a procedure declares before its body, and its claims.
+//! What a procedure declares before its body.
 
-ghost use Rattle.std.specs.Prelude.{◌≡◌, [], None, not, IfOk, IfErr, OnOk};
+ghost use Rattle.std.specs.Prelude.{◌≡◌, [], None, IfOk, IfErr, OnOk};
 ghost use Rattle.pale_tables.specs.Faults.{IsStop};
-ghost use Rattle.pale_fitting.specs.Declaring.{DeclarationsFit};
-ghost use Rattle.pale_sights.specs.Sights.{heading_sight};
-ghost use Rattle.pale_sights.specs.Framing.{IsHeading};
-ghost use Rattle.pale_sights.specs.Stated.{stated_or_true, stated_fault};
-ghost use Rattle.pale_sights.specs.Headings.{heading_of, heading_names, heading_fault, claims_fault, claims_of, lists_of};
+ghost use Rattle.pale_sights.specs.Headings.{heading_of, heading_names, heading_fault, lists_of};
 
-use crate::sights::{Heading, heading_sight, numbers};
-use crate::stated::read_optional;
+use crate::sights::{Heading, numbers};
 use crate::variables::{Variable, read_logics, read_variables};
-use pale_predicates::Declared;
-use pale_syntax::{Bracketed, Procedure};
+use pale_syntax::Procedure;
 use pale_tables::Names;
 use pale_text::TextStop;
 use std::alloc::{AllocError, Global};
 use store_core::TypeTable;
-use store_logic::{Assertion, VarList};
-
-/// `pre` and `post`.
-#[derive(Drop)]
-pub struct Claims {
-    pub pre: Assertion,
-    pub post: Assertion,
-}
+use store_logic::VarList;
 
 /// The numbers of a procedure's variables.
 #[derive(Drop)]
@@ -58,43 +45,6 @@ pub fn read_heading(
         logics,
         locals: procedure.locals.len(),
     })
-}
-
-/// `pre`, which may name parameters, or `post`, which may name results.
-fn read_claim(
-    alloc: Global,
-    declared: &Declared,
-    heading: &Heading,
-    is_pre: bool,
-    bracketed: &Option<Bracketed>,
-) -> Result<Assertion, TextStop>
-    requires declarations { DeclarationsFit declared.now }
-    requires heading { IsHeading heading.now }
-    ensures met { OnOk result (stated_fault declared.now (heading_sight is_pre (not is_pre) heading.now) bracketed.now ≡ None) }
-    ensures claim { IfOk result (λ made. made ≡ stated_or_true declared.now (heading_sight is_pre (not is_pre) heading.now) bracketed.now) }
-    ensures stop { IfErr result (IsStop (stated_fault declared.now (heading_sight is_pre (not is_pre) heading.now) bracketed.now)) }
-{
-    let mut sight = heading_sight(alloc, heading, is_pre, !is_pre)?;
-    read_optional(alloc, declared, &mut sight, bracketed)
-}
-
-/// `pre` and `post`, which may be left out.
-#[tactic(auto, unfolding(crate::specs::Headings::claims_fault))]
-pub fn read_claims(
-    alloc: Global,
-    declared: &Declared,
-    heading: &Heading,
-    procedure: &Procedure,
-) -> Result<Claims, TextStop>
-    requires declarations { DeclarationsFit declared.now }
-    requires heading { IsHeading heading.now }
-    ensures met { OnOk result (claims_fault declared.now heading.now procedure.now ≡ None) }
-    ensures claims { IfOk result (λ claims. claims ≡ claims_of declared.now heading.now procedure.now) }
-    ensures stop { IfErr result (IsStop (claims_fault declared.now heading.now procedure.now)) }
-{
-    let pre = read_claim(alloc, declared, heading, true, &procedure.pre)?;
-    let post = read_claim(alloc, declared, heading, false, &procedure.post)?;
-    Ok(Claims { pre, post })
 }
 
 /// The numbers of the variables, where the body has these locals.

@@ -3,7 +3,7 @@
 ghost use Rattle.std.specs.Prelude.{◌≡◌, ◌∷◌, ◌++◌, [], ◌<◌, None, length, map, IfOk, IfErr, OnOk};
 ghost use Rattle.store_core.specs.Tables.{place_of};
 ghost use Rattle.pale_tables.specs.Faults.{IsStop};
-ghost use Rattle.pale_predicates.specs.Parameters.{type_of, type_fault};
+ghost use Rattle.pale_vocabulary.specs.Parameters.{type_of, type_fault};
 ghost use Rattle.pale_sights.specs.Variables.{name_of, kind_of, variable_of, logic_name_of, logic_kind_of, logic_of, name_fault, kind_fault, logic_kind_fault};
 ghost use Rattle.pale_sights.specs.Variables.{variable_fault, logic_fault, variables_fault, logics_fault, with_names, with_logic_names};
 
@@ -74,7 +74,7 @@ fn need_new(before: &Names, name: &Name) -> Result<(), TextStop>
 }
 
 /// The type of this name.
-#[tactic(auto, unfolding(pale_predicates::specs::Parameters::type_fault, pale_predicates::specs::Parameters::type_of))]
+#[tactic(auto, unfolding(pale_vocabulary::specs::Parameters::type_fault, pale_vocabulary::specs::Parameters::type_of))]
 fn read_type(types: &TypeTable, ty: &Name) -> Result<TypeId, TextStop>
     ensures met { OnOk result (type_fault types.now ty.now ≡ None) }
     ensures ty { IfOk result (λ found. found ≡ type_of types.now ty.now) }

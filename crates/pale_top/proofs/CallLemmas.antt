@@ -8,7 +8,7 @@ use Rattle.pale_io.specs.Whole.{ReadsAll, WritesAll, WritesFront}
 use Rattle.pale_io.specs.declared.stops.WriteStop.{WriteStop}
 use Rattle.pale_io.specs.declared.stops.WriteStop.TheVariants.{Failed, NoMemory}
 use Rattle.store_exec.specs.declared.triple.Triple.{Triple}
-use Rattle.pale_types.specs.TypedPrograms.{TypedProgram}
+use Rattle.pale_typed.specs.TypedPrograms.{TypedProgram}
 use Rattle.pale_words.specs.declared.words.Mode.{Mode}
 use Rattle.pale_words.specs.declared.words.Mode.TheVariants.{Check, Replay, Format, Ws2s, Gen}
 use Rattle.pale_words.specs.declared.words.Settings.{Settings}

@@ -11,8 +11,8 @@ use Rattle.store_core.specs.declared.ids.FieldId.{FieldId}
 use Rattle.store_core.specs.Tables.{TypeEntry}
 use Rattle.store_exec.specs.declared.triple.Triple.{Triple}
 use Rattle.witness_store.specs.Alike.{AreFunctional}
-use Rattle.pale_types.specs.TypedPrograms.{TypedProgram}
-use Rattle.pale_types.specs.Fitting.{ProgramFits}
+use Rattle.pale_typed.specs.TypedPrograms.{TypedProgram}
+use Rattle.pale_typed.specs.Fitting.{ProgramFits}
 use Rattle.hoare_split.specs.Fitting.{FitsProgram}
 use Rattle.pale_io.specs.Whole.{WritesAll, WritesFront}
 use Rattle.pale_modes.specs.Written.{Wrote, WroteAtMost}

@@ -3,8 +3,8 @@ use Rattle.std.proofs.Common.{◌≡◌, ◌∙◌, ◌⊎◌, inl, inr, ◌≤�
 use Rattle.std.specs.Prelude.{IfSome}
 use Rattle.pale_text.specs.declared.refusal.Refusal.{Refusal}
 use Rattle.store_exec.specs.declared.triple.Triple.{Triple}
-use Rattle.pale_types.specs.TypedPrograms.{TypedProgram}
-use Rattle.hoare_split.specs.ProgramTexts.{IsReadAs, IsRefusedAs}
+use Rattle.pale_typed.specs.TypedPrograms.{TypedProgram}
+use Rattle.whole_program.specs.ProgramTexts.{IsReadAs, IsRefusedAs}
 use Rattle.pale_words.specs.declared.words.Mode.TheVariants.{Check, Replay, Format, Ws2s, Gen}
 use Rattle.pale_words.specs.declared.words.Settings.{Settings}
 use Rattle.pale_words.specs.Words.{AsksFor, Gives}
@@ -15,8 +15,8 @@ use Rattle.pale_modes.specs.Texts.{most_bytes}
 use Rattle.program_judge.specs.declared.ways.Ending.{Ending}
 use Rattle.program_judge.specs.declared.ways.Ending.TheVariants as ending
 use Rattle.program_judge.specs.Reports.{ReportsProgram}
-use Rattle.program_judge.specs.Safety.{RunsNeverFail, IsSafe}
-use Rattle.program_judge.specs.Completeness.{ArePeaksWithin, IsWithinPeaks}
+use Rattle.program_promises.specs.Safety.{RunsNeverFail, IsSafe}
+use Rattle.program_promises.specs.Completeness.{ArePeaksWithin, IsWithinPeaks}
 use Rattle.pale_top.specs.Checking.{Checks, status_of, too_long, refused, judged}
 use Rattle.pale_top.specs.Output.{Answers, IsAnswer, Output, check, replay, format, ws2s, generated}
 

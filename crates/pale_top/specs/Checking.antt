@@ -2,8 +2,8 @@
 use Rattle.std.specs.Prelude.{◌<◌, ◌≤◌, ℕ, List, length}
 use Rattle.pale_text.specs.declared.refusal.Refusal.{Refusal}
 use Rattle.store_exec.specs.declared.triple.Triple.{Triple}
-use Rattle.pale_types.specs.TypedPrograms.{TypedProgram}
-use Rattle.hoare_split.specs.ProgramTexts.{IsReadAs, IsRefusedAs}
+use Rattle.pale_typed.specs.TypedPrograms.{TypedProgram}
+use Rattle.whole_program.specs.ProgramTexts.{IsReadAs, IsRefusedAs}
 use Rattle.pale_modes.specs.declared.status.Status.{Status}
 use Rattle.pale_modes.specs.declared.status.Status.TheVariants.{Good, Bad, Text, Limit}
 use Rattle.pale_modes.specs.Report.{refused_line, too_long_line}

@@ -4,9 +4,9 @@ use Rattle.std.specs.List.{list_all}
 use Rattle.std.specs.Fmt.{decimal}
 use Rattle.pale_text.specs.declared.refusal.Refusal.{Refusal}
 use Rattle.store_exec.specs.declared.triple.Triple.{Triple}
-use Rattle.pale_types.specs.TypedPrograms.{TypedProgram}
+use Rattle.pale_typed.specs.TypedPrograms.{TypedProgram}
 use Rattle.pale_generator.specs.Generated.{program_text}
-use Rattle.hoare_split.specs.ProgramTexts.{IsReadAs, IsRefusedAs}
+use Rattle.whole_program.specs.ProgramTexts.{IsReadAs, IsRefusedAs}
 use Rattle.pale_modes.specs.declared.status.Status.{Status}
 use Rattle.pale_modes.specs.declared.status.Status.TheVariants.{Text}
 use Rattle.pale_modes.specs.Report.{refused_line, too_long_line}

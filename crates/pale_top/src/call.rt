@@ -8,8 +8,8 @@ ghost use Rattle.pale_words.specs.Words.{AsksFor, Gives, IsLimit, IsRefused};
 ghost use Rattle.pale_modes.specs.Report.{too_long_line};
 ghost use Rattle.pale_modes.specs.Texts.{most_bytes};
 ghost use Rattle.pale_modes.specs.Written.{Wrote, WroteAtMost};
-ghost use Rattle.program_judge.specs.Safety.{IsSafe};
-ghost use Rattle.program_judge.specs.Completeness.{IsWithinPeaks};
+ghost use Rattle.program_promises.specs.Safety.{IsSafe};
+ghost use Rattle.program_promises.specs.Completeness.{IsWithinPeaks};
 ghost use Rattle.pale_top.specs.Output.{Answers, Begins, IsAnswer, IsCutShort, CallOutput, Output, usage_line};
 
 use crate::check::check_text;
@@ -17,7 +17,7 @@ use crate::generate::gen_text;
 use pale_io::{ReadStop, Sink, Source, WriteStop, read_all};
 use pale_modes::{Status, decide_text, ended, format_text, replay_text, say};
 use pale_words::{Mode, Settings, WordsStop, read_words};
-use program_judge::promises::{
+use program_promises::{
     good_reports_have_safe_runs, reports_within_the_peaks_are_verdicts, texts_have_one_reading,
 };
 use std::alloc::Global;

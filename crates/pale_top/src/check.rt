@@ -4,7 +4,7 @@ ghost use Rattle.pale_io.specs.Faults.{Rose};
 ghost use Rattle.bdd_nodes.specs.Shelf.{limit_of};
 ghost use Rattle.gta_keep.specs.Holding.{HasNoTables};
 ghost use Rattle.witness_store.specs.Alike.{AreFunctional};
-ghost use Rattle.pale_types.specs.Fitting.{ProgramFits};
+ghost use Rattle.pale_typed.specs.Fitting.{ProgramFits};
 ghost use Rattle.hoare_split.specs.Fitting.{FitsProgram};
 ghost use Rattle.pale_words.specs.Words.{IsLimit};
 ghost use Rattle.pale_modes.specs.Written.{Wrote, WroteAtMost};
@@ -14,11 +14,11 @@ ghost use Rattle.pale_top.specs.Checking.{Checks, status_of};
 
 use crate::check_parts::{check_fields, check_triples};
 use bdd_nodes::Shelf;
-use hoare_split::{WholeProgram, read_program};
 use pale_io::{Sink, WriteStop, write_all};
 use pale_modes::{Status, refuse};
 use program_judge::{Ending, are_functional, judged_ending, stopped_ending, totals_text};
 use std::alloc::Global;
+use whole_program::{WholeProgram, read_program};
 use ws2s_pass::PassList;
 
 /// The status of a report, by how it ends.

@@ -4,20 +4,20 @@ ghost use Rattle.pale_io.specs.Faults.{Rose};
 ghost use Rattle.bdd_nodes.specs.Shelf.{limit_of};
 ghost use Rattle.gta_keep.specs.Holding.{HasNoTables};
 ghost use Rattle.witness_store.specs.Alike.{AreFunctional};
-ghost use Rattle.pale_types.specs.Fitting.{ProgramFits};
+ghost use Rattle.pale_typed.specs.Fitting.{ProgramFits};
 ghost use Rattle.hoare_split.specs.Fitting.{FitsProgram};
 ghost use Rattle.pale_modes.specs.Written.{Wrote, WroteAtMost};
 ghost use Rattle.program_judge.specs.Reports as reports;
 ghost use Rattle.program_judge.specs.Reports.{ReportsField, ReportsFields, ReportsTriple, ReportsTriples, ReportsAll, ReportsProgram};
 
 use bdd_nodes::Shelf;
-use hoare_split::WholeProgram;
 use pale_io::{Sink, WriteStop, write_all};
-use pale_types::Typed;
+use pale_typed::Typed;
 use program_judge::{FieldWay, TripleWay, field_report, pointer_fields, triple_report};
 use std::alloc::{AllocError, Global};
 use store_core::{FieldId, TypeTable};
 use store_exec::Triple;
+use whole_program::WholeProgram;
 use ws2s_pass::PassList;
 
 /// Puts how one more was judged at the end.

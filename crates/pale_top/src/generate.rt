@@ -4,7 +4,7 @@ ghost use Rattle.pale_io.specs.Faults.{Rose};
 ghost use Rattle.bdd_nodes.specs.Shelf.{limit_of};
 ghost use Rattle.gta_keep.specs.Holding.{HasNoTables};
 ghost use Rattle.witness_store.specs.Alike.{AreFunctional};
-ghost use Rattle.pale_types.specs.Fitting.{ProgramFits};
+ghost use Rattle.pale_typed.specs.Fitting.{ProgramFits};
 ghost use Rattle.hoare_split.specs.Fitting.{FitsProgram};
 ghost use Rattle.pale_words.specs.Words.{IsLimit};
 ghost use Rattle.pale_modes.specs.Written.{Wrote, WroteAtMost};
@@ -16,7 +16,6 @@ use crate::check::status_of;
 use crate::check_parts::{check_fields, check_triples};
 use crate::nowhere::Nowhere;
 use bdd_nodes::Shelf;
-use hoare_split::{WholeProgram, read_program};
 use pale_generator::gen_program;
 use pale_io::{Sink, WriteStop};
 use pale_modes::{Status, push_number, refuse, say};
@@ -25,6 +24,7 @@ use program_judge::{
     valid_count,
 };
 use std::alloc::{AllocError, Global};
+use whole_program::{WholeProgram, read_program};
 use ws2s_pass::PassList;
 
 /// How the triples of a program were judged, none where some field isn't functional, and how its report ends.

@@ -19,7 +19,7 @@ use Rattle.store_core.specs.Tables.{TypeEntry, VarEntry, type_named}
 use Rattle.pale_tables.specs.Faults.{need}
 use Rattle.pale_tables.proofs.KnownRoutes.{both, needed}
 use Rattle.pale_fitting.proofs.TermFitLemmas.{and-parts}
-use Rattle.pale_predicates.specs.Parameters.{type_of}
+use Rattle.pale_vocabulary.specs.Parameters.{type_of}
 use Rattle.pale_calls.specs.declared.signature.Signature.{Signature}
 use Rattle.pale_calls.specs.declared.actual.Actual.{Actual}
 use Rattle.pale_calls.specs.declared.actual.Actual.TheVariants as actual
@@ -27,15 +27,15 @@ use Rattle.pale_calls.specs.Classes.{class_of, holds_cell, holds_truth}
 use Rattle.pale_calls.specs.Signatures.{Named, number_of}
 use Rattle.pale_calls.specs.Calls as calls
 use Rattle.pale_calls.specs.Calls.{callee_named, call_fault, results_fault, handed_fault, arguments_fault, has_counts, actual_of}
-use Rattle.pale_types.specs.declared.basis.Basis.{Basis}
-use Rattle.pale_types.specs.declared.typed.ProcEntry.{ProcEntry}
+use Rattle.pale_procedures.specs.declared.basis.Basis.{Basis}
+use Rattle.pale_typed.specs.declared.typed.ProcEntry.{ProcEntry}
 use Rattle.pale_sights.specs.Variables as variables
 use Rattle.pale_sights.specs.Formals.{formal_of, logic_formal_of, signature_of, named_of}
 use Rattle.pale_sights.specs.Sights.{numbers, first_result, first_logic, vars_of}
-use Rattle.pale_types.specs.Statements.{types_of}
+use Rattle.pale_procedures.specs.Statements.{types_of}
 use Rattle.pale_sights.specs.Headings.{heading_of, locals_of}
-use Rattle.pale_types.specs.Procedures.{typed_procedure}
-use Rattle.pale_sights.specs.Fitting.{kind_at, IsLike, ActualFits}
+use Rattle.pale_procedures.specs.Procedures.{typed_procedure}
+use Rattle.pale_typed.specs.Variables.{kind_at, IsLike, ActualFits}
 use Rattle.pale_sights.proofs.FittingSightLemmas.{middle-at, further, one-more, first-part, last-part, last-number}
 use Rattle.pale_sights.proofs.FittingCallsLemmas.{Declares, IsActualOf, IsOfKind}
 

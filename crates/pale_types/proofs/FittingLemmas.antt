@@ -15,15 +15,15 @@ use Rattle.pale_tables.specs.Names.{repeated_fault}
 use Rattle.pale_tables.specs.Types.{names_in, type_entry, type_table, types_fault}
 use Rattle.pale_tables.proofs.KnownRoutes.{both, needed}
 use Rattle.pale_tables.proofs.TableLemmas.{names-once, table_is}
-use Rattle.pale_types.specs.declared.basis.Basis.{Basis}
-use Rattle.pale_types.specs.declared.typed.ProcEntry.{ProcEntry}
-use Rattle.pale_types.specs.TypedPrograms.{TypedProgram}
+use Rattle.pale_procedures.specs.declared.basis.Basis.{Basis}
+use Rattle.pale_typed.specs.declared.typed.ProcEntry.{ProcEntry}
+use Rattle.pale_typed.specs.TypedPrograms.{TypedProgram}
 use Rattle.pale_sights.specs.Formals.{named_of}
-use Rattle.pale_types.specs.Statements.{types_of}
-use Rattle.pale_types.specs.Procedures.{typed_procedure, procedure_fault}
+use Rattle.pale_procedures.specs.Statements.{types_of}
+use Rattle.pale_procedures.specs.Procedures.{typed_procedure, procedure_fault}
 use Rattle.pale_types.specs.Programs.{basis_of, typed_list, typed_program, names_fault, declarations_fault, list_fault, program_fault}
 use Rattle.pale_types.specs.Programs.{types_in, predicates_in, procedures_in}
-use Rattle.pale_types.specs.Fitting.{ProcFits, ProgramFits}
+use Rattle.pale_typed.specs.Fitting.{ProcFits, ProgramFits}
 use Rattle.pale_types.proofs.ProgramLemmas.{declared-types, declared-fit, type-names-fine, procedure-names-fine}
 use Rattle.pale_sights.proofs.FittingCallsLemmas.{none-is}
 use Rattle.pale_sights.proofs.FittingRouteLemmas.{routes-fit}

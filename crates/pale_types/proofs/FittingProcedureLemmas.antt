@@ -17,10 +17,10 @@ use Rattle.store_logic.specs.Fits.{KnowsVars}
 use Rattle.store_logic.specs.FitsCode.{code_sort}
 use Rattle.store_logic.proofs.ExpandingLists.{all-append}
 use Rattle.pale_tables.proofs.KnownRoutes.{both, needed, position-within}
-use Rattle.pale_predicates.specs.Parameters.{type_of, type_fault}
+use Rattle.pale_vocabulary.specs.Parameters.{type_of, type_fault}
 use Rattle.pale_fitting.specs.Declaring.{DeclarationsFit}
 use Rattle.pale_calls.specs.Classes.{class_of, is_logic}
-use Rattle.pale_types.specs.declared.basis.Basis.{Basis}
+use Rattle.pale_procedures.specs.declared.basis.Basis.{Basis}
 use Rattle.pale_sights.specs.declared.sights.Heading.{Heading}
 use Rattle.pale_sights.specs.declared.sights.Frame.{Frame}
 use Rattle.pale_sights.specs.Variables.{name_of, kind_of, variable_of, logic_name_of, logic_kind_of, logic_of, name_fault, variable_fault, kind_fault}
@@ -28,11 +28,12 @@ use Rattle.pale_sights.specs.Variables.{logic_fault, logic_kind_fault, variables
 use Rattle.pale_sights.specs.Formals.{named_of}
 use Rattle.pale_sights.specs.Sights.{pre_sight, post_sight, vars_of}
 use Rattle.pale_sights.specs.Framing.{IsBody, IsFrame}
-use Rattle.pale_sights.specs.Stated.{stated_fault}
-use Rattle.pale_types.specs.Statements.{types_of, block_fault}
-use Rattle.pale_sights.specs.Headings.{heading_of, locals_of, frame_in, result_names, heading_names, heading_fault, claims_fault}
-use Rattle.pale_types.specs.Procedures.{typed_procedure, procedure_fault}
-use Rattle.pale_types.specs.Fitting.{ProcFits}
+use Rattle.pale_procedures.specs.Stated.{stated_fault}
+use Rattle.pale_procedures.specs.Statements.{types_of, block_fault}
+use Rattle.pale_sights.specs.Headings.{heading_of, locals_of, frame_in, result_names, heading_names, heading_fault}
+use Rattle.pale_procedures.specs.Claims.{claims_fault}
+use Rattle.pale_procedures.specs.Procedures.{typed_procedure, procedure_fault}
+use Rattle.pale_typed.specs.Fitting.{ProcFits}
 use Rattle.pale_sights.proofs.SightLemmas.{seen-outside}
 use Rattle.pale_sights.proofs.HeadingLemmas.{body-is, frame-in}
 use Rattle.pale_types.proofs.FittingStatementsLemmas.{Stands, optional-fits, block-fits}

@@ -28,34 +28,35 @@ use Rattle.pale_terms.specs.Visibles.{Entry}
 use Rattle.pale_terms.specs.Scopes.{visible_names}
 use Rattle.pale_acts.specs.Conditions.{typed_condition}
 use Rattle.pale_acts.specs.Assignments.{assignment_of, free_of}
-use Rattle.pale_predicates.specs.declared.predicates.Declared.{Declared}
-use Rattle.pale_predicates.specs.Predicates.{bracketed_fault}
+use Rattle.pale_vocabulary.specs.declared.vocabulary.Declared.{Declared}
+use Rattle.pale_vocabulary.specs.Predicates.{bracketed_fault}
 use Rattle.pale_fitting.specs.Standing.{AreVariables, AreCodeVariables}
 use Rattle.pale_fitting.specs.Declaring.{DeclarationsFit}
-use Rattle.pale_fitting.proofs.FitForms.{Fits-True}
+use Rattle.claim_laws.proofs.FitForms.{Fits-True}
 use Rattle.pale_fitting.proofs.ProcedureLemmas.{procedure-expansion-fits}
 use Rattle.pale_fitting.proofs.CodeFitLemmas.{condition-fits}
 use Rattle.pale_fitting.proofs.ActFitLemmas.{assignment-fits, free-fits}
 use Rattle.pale_calls.specs.Calls as calls
 use Rattle.pale_calls.specs.Calls.{call_fault, call_of, touched, actual_of}
-use Rattle.pale_types.specs.declared.basis.Basis.{Basis}
+use Rattle.pale_procedures.specs.declared.basis.Basis.{Basis}
 use Rattle.pale_sights.specs.declared.sights.Frame.{Frame}
-use Rattle.pale_types.specs.declared.typed.ProcEntry.{ProcEntry}
-use Rattle.pale_types.specs.declared.typed.Stmt.{Stmt, roll-Stmt}
-use Rattle.pale_types.specs.declared.typed.Stmt.TheVariants as stmt
-use Rattle.pale_types.specs.declared.typed.Stmt.TheOpen.{Stmt-F}
-use Rattle.pale_types.specs.declared.typed.Stmt.TheFolds.{rec-roll-Stmt, map-Stmt}
+use Rattle.pale_typed.specs.declared.typed.ProcEntry.{ProcEntry}
+use Rattle.pale_typed.specs.declared.typed.Stmt.{Stmt, roll-Stmt}
+use Rattle.pale_typed.specs.declared.typed.Stmt.TheVariants as stmt
+use Rattle.pale_typed.specs.declared.typed.Stmt.TheOpen.{Stmt-F}
+use Rattle.pale_typed.specs.declared.typed.Stmt.TheFolds.{rec-roll-Stmt, map-Stmt}
 use Rattle.pale_sights.specs.Formals.{formal_of, logic_formal_of, signature_of, named_of}
 use Rattle.pale_sights.specs.Variables as variables
-use Rattle.pale_sights.specs.Stated.{stated, stated_or_true, stated_fault}
-use Rattle.pale_types.specs.Statements.{types_of, keep_sight, parts_of, parts_fault, typing_rules, typed_statement, typed_block, block_rule}
-use Rattle.pale_types.specs.Statements.{fault_rules, statement_fault, block_fault}
+use Rattle.pale_procedures.specs.Stated.{stated, stated_or_true, stated_fault}
+use Rattle.pale_procedures.specs.Statements.{types_of, keep_sight, parts_of, parts_fault, typing_rules, typed_statement, typed_block, block_rule}
+use Rattle.pale_procedures.specs.Statements.{fault_rules, statement_fault, block_fault}
 use Rattle.pale_sights.specs.Headings.{heading_of}
-use Rattle.pale_types.specs.Procedures.{typed_procedure}
-use Rattle.pale_sights.specs.Fitting.{cells_in, NameMayBe, StatedFits}
-use Rattle.pale_types.specs.Fitting.{CallFits, StatementFitsNode, StatementFits}
+use Rattle.pale_procedures.specs.Procedures.{typed_procedure}
+use Rattle.claim_laws.specs.Claims.{NameMayBe, StatedFits}
+use Rattle.pale_typed.specs.Variables.{cells_in}
+use Rattle.pale_typed.specs.Fitting.{CallFits, StatementFitsNode, StatementFits}
 use Rattle.pale_sights.proofs.KeepLemmas.{allowed-variables}
-use Rattle.pale_types.proofs.StatementLemmas.{fault_form, typed_form}
+use Rattle.pale_procedures.proofs.StatementLemmas.{fault_form, typed_form}
 use Rattle.pale_sights.proofs.FittingNamesLemmas.{AreOpen, IsPassed, stated-names}
 use Rattle.pale_sights.proofs.FittingCallsLemmas.{AreResults, arguments-are, arguments-stand, cells-once, results-are}
 use Rattle.pale_sights.proofs.FittingKeepLemmas.{IsNamedVariable, IsApart, has_none, nones-open, taken-each, allow-each, untouched}

@@ -1,5 +1,3 @@
-pub mod StatementLemmas
-pub mod ReadingLemmas
 pub mod ProgramLemmas
 mod FittingCalleesLemmas
 mod FittingStatementsLemmas

@@ -12,17 +12,17 @@ use Rattle.pale_tables.specs.Names.{repeated_fault}
 use Rattle.pale_tables.specs.Types.{type_table, names_in, types_fault, type_names_fault}
 use Rattle.pale_tables.proofs.FaultLemmas.{stop-then, stop-after, none-then}
 use Rattle.pale_tables.proofs.KnownRoutes.{both}
-use Rattle.pale_predicates.specs.declared.predicates.Declared.{Declared}
-use Rattle.pale_predicates.specs.Predicates.{with_pred, nothing_with, declared_by, predicates_fault}
+use Rattle.pale_vocabulary.specs.declared.vocabulary.Declared.{Declared}
+use Rattle.pale_vocabulary.specs.Predicates.{with_pred, nothing_with, declared_by, predicates_fault}
 use Rattle.pale_fitting.specs.Declaring.{DeclarationsFit}
 use Rattle.pale_fitting.proofs.NamingLemmas.{names-of}
 use Rattle.pale_fitting.proofs.DeclarationLemmas.{declarations-fit}
 use Rattle.pale_calls.specs.Signatures.{Named}
-use Rattle.pale_types.specs.declared.basis.Basis.{Basis}
-use Rattle.pale_types.specs.declared.typed.ProcEntry.{ProcEntry}
-use Rattle.pale_types.specs.TypedPrograms.{TypedProgram}
+use Rattle.pale_procedures.specs.declared.basis.Basis.{Basis}
+use Rattle.pale_typed.specs.declared.typed.ProcEntry.{ProcEntry}
+use Rattle.pale_typed.specs.TypedPrograms.{TypedProgram}
 use Rattle.pale_sights.specs.Formals.{named_of}
-use Rattle.pale_types.specs.Procedures.{typed_procedure, procedure_fault}
+use Rattle.pale_procedures.specs.Procedures.{typed_procedure, procedure_fault}
 use Rattle.pale_types.specs.Programs.{declared_in, basis_of, typed_list, names_fault, declarations_fault, list_fault}
 
 pub map-twice : {X Y Z : Type 0} (f : Y → Z) (g : X → Y) (xs : List X) → map f (map g xs) ≡ map (λ x. f (g x)) xs

@@ -1,11 +1,1 @@
-pub use Rattle.pale_sights.specs.Variables
-pub use Rattle.pale_sights.specs.Formals
-pub use Rattle.pale_sights.specs.Sights
-pub use Rattle.pale_sights.specs.Framing
-pub use Rattle.pale_sights.specs.Stated
-pub use Rattle.pale_sights.specs.Headings
-pub mod Statements
-pub mod Procedures
-pub mod TypedPrograms
 pub mod Programs
-pub mod Fitting

@@ -9,12 +9,12 @@ use Rattle.pale_syntax.specs.declared.tree.declaration.Procedure.{Procedure}
 use Rattle.pale_tables.specs.Faults.{Fault, ◌>>◌, first_of}
 use Rattle.pale_tables.specs.Names.{repeated_fault}
 use Rattle.pale_tables.specs.Types.{names_in, type_table, type_names_fault, types_fault}
-use Rattle.pale_predicates.specs.declared.predicates.Declared.{Declared}
-use Rattle.pale_predicates.specs.Predicates.{declared_by, nothing_with, predicates_fault}
-use Rattle.pale_types.specs.declared.basis.Basis.{Basis}
-use Rattle.pale_types.specs.TypedPrograms.{TypedProgram}
+use Rattle.pale_vocabulary.specs.declared.vocabulary.Declared.{Declared}
+use Rattle.pale_vocabulary.specs.Predicates.{declared_by, nothing_with, predicates_fault}
+use Rattle.pale_procedures.specs.declared.basis.Basis.{Basis}
+use Rattle.pale_typed.specs.TypedPrograms.{TypedProgram}
 use Rattle.pale_sights.specs.Formals.{named_of}
-use Rattle.pale_types.specs.Procedures.{procedure_fault, typed_procedure}
+use Rattle.pale_procedures.specs.Procedures.{procedure_fault, typed_procedure}
 
 -- ---- the declarations of each kind, in order of the text
 

@@ -6,19 +6,19 @@ ghost use Rattle.pale_text.specs.declared.refusal.RefusalKind.TheVariants as kin
 ghost use Rattle.pale_tables.specs.Faults.{IsStop, need};
 ghost use Rattle.pale_tables.specs.Names.{is_new, repeated_fault};
 ghost use Rattle.pale_tables.specs.Types.{type_names_fault, types_fault, type_table, names_in};
-ghost use Rattle.pale_predicates.specs.Predicates.{predicates_fault, nothing_with};
+ghost use Rattle.pale_vocabulary.specs.Predicates.{predicates_fault, nothing_with};
 ghost use Rattle.pale_types.specs.Programs.{types_in, predicates_in, procedures_in, declared_in, basis_of, typed_list, typed_program};
 ghost use Rattle.pale_types.specs.Programs.{names_fault, declarations_fault, list_fault, program_fault};
-ghost use Rattle.pale_types.specs.Fitting.{ProgramFits};
+ghost use Rattle.pale_typed.specs.Fitting.{ProgramFits};
 
-use crate::basis::Basis;
-use crate::procedures::read_procedures;
-use crate::typed_program::Typed;
-use pale_predicates::{Declared, check_predicate_names, read_predicates};
+use pale_predicates::{check_predicate_names, read_predicates};
+use pale_procedures::{Basis, read_procedures};
 use pale_sights::signatures_of;
 use pale_syntax::{Declaration, Name, PredicateDeclaration, Procedure, Program, TypeDeclaration};
 use pale_tables::{Names, TypeNames, check_type_names, read_names, read_table};
 use pale_text::{Refusal, RefusalKind, TextStop};
+use pale_typed::Typed;
+use pale_vocabulary::Declared;
 use std::alloc::{AllocError, Global};
 
 /// The declarations of each kind, in order of the text.

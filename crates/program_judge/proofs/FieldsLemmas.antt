@@ -20,12 +20,12 @@ use Rattle.store_core.specs.Tables.{TypeEntry, VarEntry, FieldEntry, IsTypeTable
 use Rattle.store_core.specs.Stores.{StoreMap, field_value}
 use Rattle.store_core.proofs.FittingLemmas.{IfSome-from, IsSomeAnd-at}
 use Rattle.witness_store.specs.Only.{HasTwo}
-use Rattle.routing_expr.specs.Destinations.{Dest, IsPointer}
-use Rattle.routing_expr.specs.Searches.{Lists}
-use Rattle.routing_expr.specs.WellFormed.{IsFunctional, IsFirstCell}
-use Rattle.routing_expr.proofs.GatheringLemmas.{Contains-none, Contains-at, Contains-one}
-use Rattle.routing_laws.specs.Deciding.{Decided}
-use Rattle.routing_laws.proofs.DecidedStores.{dests}
+use Rattle.routing_walks.specs.Destinations.{Dest, IsPointer}
+use Rattle.routing_walks.specs.Sets.{Lists}
+use Rattle.routing_walks.specs.WellFormed.{IsFunctional, IsFirstCell}
+use Rattle.routing_walks.proofs.GatheringLemmas.{Contains-none, Contains-at, Contains-one}
+use Rattle.routing_walks.specs.Deciding.{Decided}
+use Rattle.routing_walks.proofs.DecidedStores.{dests}
 use Rattle.tree_encode.specs.Tracks.{track_count, variants_from}
 use Rattle.tree_store.proofs.WeighingLemmas.{weight-cells}
 use Rattle.tree_formula.specs.WellEncoded.{well_encoded}

@@ -3,7 +3,7 @@ use Rattle.std.proofs.Common.{◌≡◌, ◌+◌, ◌++◌, ℕ, suc, true, Bool
 use Rattle.store_core.specs.declared.ids.FieldId.{FieldId}
 use Rattle.store_core.specs.Tables.{TypeEntry}
 use Rattle.store_exec.specs.declared.triple.Triple.{Triple}
-use Rattle.pale_types.specs.TypedPrograms.{TypedProgram}
+use Rattle.pale_typed.specs.TypedPrograms.{TypedProgram}
 use Rattle.program_judge.specs.declared.ways.FieldWay.{FieldWay}
 use Rattle.program_judge.specs.declared.ways.TripleWay.{TripleWay}
 use Rattle.program_judge.specs.Reports.{ReportsField, ReportsFields, no_field, next_field}

@@ -3,7 +3,4 @@ pub mod GoodLemmas
 pub mod FieldsLemmas
 pub mod StandingLemmas
 pub mod EndingLemmas
-pub mod ReadingLemmas
-pub mod SafetyLemmas
-pub mod CompletenessLemmas
 mod TellingLemmas

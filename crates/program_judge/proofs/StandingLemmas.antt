@@ -13,10 +13,10 @@ use Rattle.store_exec.specs.declared.triple.Claim.{Claim}
 use Rattle.store_exec.specs.declared.triple.Cut.{Cut}
 use Rattle.store_exec.specs.declared.triple.Triple.{Triple}
 use Rattle.triple_meaning.specs.Claims.Given.{IsRegionOf}
-use Rattle.pale_types.specs.declared.typed.ProcEntry.{ProcEntry}
-use Rattle.pale_types.specs.declared.typed.TypedProc.{TypedProc}
-use Rattle.pale_types.specs.TypedPrograms.{TypedProgram}
-use Rattle.pale_types.specs.Fitting.{ProgramFits, ProcFits}
+use Rattle.pale_typed.specs.declared.typed.ProcEntry.{ProcEntry}
+use Rattle.pale_typed.specs.declared.typed.TypedProc.{TypedProc}
+use Rattle.pale_typed.specs.TypedPrograms.{TypedProgram}
+use Rattle.pale_typed.specs.Fitting.{ProgramFits, ProcFits}
 use Rattle.hoare_split.specs.Fitting as fitting
 use Rattle.hoare_split.specs.Fitting.{FitsProgram, AreReadAt, regions_at}
 use Rattle.store_ends.specs.Places.{places_at, places_of}

@@ -5,9 +5,9 @@ use Rattle.store_core.specs.Stores.{StoreMap}
 use Rattle.store_text.specs.StoreText.{store_text_of}
 use Rattle.store_exec.specs.declared.cause.Cause.{Cause}
 use Rattle.store_exec.specs.declared.triple.Triple.{Triple}
-use Rattle.pale_types.specs.declared.typed.ProcEntry.{ProcEntry}
-use Rattle.pale_types.specs.declared.typed.TypedProc.{TypedProc}
-use Rattle.pale_types.specs.TypedPrograms.{TypedProgram}
+use Rattle.pale_typed.specs.declared.typed.ProcEntry.{ProcEntry}
+use Rattle.pale_typed.specs.declared.typed.TypedProc.{TypedProc}
+use Rattle.pale_typed.specs.TypedPrograms.{TypedProgram}
 use Rattle.hoare_split.specs.Fitting.{FitsProgram}
 use Rattle.triple_judge.specs.Judging.{IsValid, IsLeastFailing, HasTriplePeak}
 use Rattle.program_judge.specs.declared.ways.TripleWay.TheVariants as way

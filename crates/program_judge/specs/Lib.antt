@@ -1,4 +1,2 @@
 pub mod Lines
 pub mod Reports
-pub mod Safety
-pub mod Completeness

@@ -7,7 +7,7 @@ use Rattle.store_core.specs.declared.ids.FieldId.{FieldId}
 use Rattle.store_core.specs.declared.ids.CellId.{CellId}
 use Rattle.store_core.specs.Tables.{TypeEntry, type_at}
 use Rattle.store_exec.specs.declared.cause.Cause.{Cause}
-use Rattle.pale_replay.specs.Lines.{word_of_cause, field_name}
+use Rattle.store_words.specs.Words.{word_of_cause, field_name}
 
 -- ---- fields
 

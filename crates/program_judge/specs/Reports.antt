@@ -8,13 +8,13 @@ use Rattle.store_core.specs.declared.kind.FieldKind.{FieldKind}
 use Rattle.store_core.specs.declared.kind.FieldKind.TheVariants as field
 use Rattle.store_core.specs.Tables.{TypeEntry}
 use Rattle.store_core.specs.Stores.{StoreMap}
-use Rattle.routing_expr.specs.WellFormed.{IsFunctional}
+use Rattle.routing_walks.specs.WellFormed.{IsFunctional}
 use Rattle.graph_view.specs.Fields.{fields_of_kind}
 use Rattle.store_exec.specs.declared.cause.Cause.{Cause}
 use Rattle.store_exec.specs.declared.triple.Triple.{Triple}
 use Rattle.store_text.specs.StoreText.{store_text_of}
-use Rattle.pale_types.specs.declared.typed.ProcEntry.{ProcEntry}
-use Rattle.pale_types.specs.TypedPrograms.{TypedProgram}
+use Rattle.pale_typed.specs.declared.typed.ProcEntry.{ProcEntry}
+use Rattle.pale_typed.specs.TypedPrograms.{TypedProgram}
 use Rattle.field_judge.specs.OneEach.{type_vars}
 use Rattle.field_judge.specs.Judging.{HasFieldPeak, IsLeastFork}
 use Rattle.triple_judge.specs.Judging.{HasTriplePeak, IsValid, IsLeastFailing}

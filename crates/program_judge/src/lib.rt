@@ -1,16 +1,13 @@
 //! What is said of a typed program: of its pointer fields in order, and where all are functional of its triples in order.
 //!
 //! `specs/Lines.antt` has the lines, as bytes, and `specs/Reports.antt` says which are written. A report is made for one field or
-//! one triple at a time, so that each can be written before the next is judged. `promises` has what a reader of a report may
-//! conclude: where every triple of a text's program was told to be valid, no whole run of it fails; below the Peaks every triple is
-//! told to be valid or invalid; and a text has one reading.
+//! one triple at a time, so that each can be written before the next is judged.
 #![tactic(auto)]
 
 mod fields;
 pub mod laws;
 mod lines;
 mod pointers;
-pub mod promises;
 mod totals;
 mod triples;
 mod ways;

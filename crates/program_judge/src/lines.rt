@@ -3,10 +3,10 @@
 ghost use Rattle.std.specs.Prelude.{◌≡◌, ◌++◌, OnOk};
 ghost use Rattle.program_judge.specs.Lines as texts;
 
-use pale_replay::{field_name, push_number, word_of};
 use std::alloc::{AllocError, Global};
 use store_core::{CellId, FieldId, TypeId, TypeTable};
 use store_exec::Cause;
+use store_words::{field_name, push_number, word_of};
 
 // ---- fields
 

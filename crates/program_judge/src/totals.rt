@@ -5,8 +5,8 @@ ghost use Rattle.std.specs.Fmt.{decimal};
 ghost use Rattle.program_judge.specs.Reports as reports;
 
 use crate::TripleWay;
-use pale_replay::push_number;
 use std::alloc::{AllocError, Global};
+use store_words::push_number;
 
 /// How many triples are valid. Takes no memory.
 pub fn valid_count(ways: &[TripleWay]) -> usize

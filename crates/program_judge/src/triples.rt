@@ -4,14 +4,14 @@ ghost use Rattle.std.specs.Prelude.{◌≡◌, IfOk};
 ghost use Rattle.bdd_nodes.specs.Shelf.{limit_of};
 ghost use Rattle.gta_keep.specs.Holding.{HasNoTables};
 ghost use Rattle.witness_store.specs.Alike.{AreFunctional};
-ghost use Rattle.pale_types.specs.Fitting.{ProgramFits};
+ghost use Rattle.pale_typed.specs.Fitting.{ProgramFits};
 ghost use Rattle.hoare_split.specs.Fitting.{FitsProgram};
 ghost use Rattle.program_judge.specs.Reports.{ReportsTriple};
 
 use crate::TripleWay;
 use crate::lines::{push_invalid, push_limit, push_valid};
 use bdd_nodes::Shelf;
-use pale_types::Typed;
+use pale_typed::Typed;
 use std::alloc::{AllocError, Global};
 use store_exec::Triple;
 use store_text::store_text;

@@ -7,15 +7,14 @@ use Rattle.store_core.specs.declared.ids.FieldId.{FieldId}
 use Rattle.store_core.specs.declared.ids.CellId.{CellId}
 use Rattle.store_core.specs.Tables.{TypeEntry, VarEntry}
 use Rattle.store_core.specs.Stores.{StoreMap, IsLive, Fits}
-use Rattle.routing_expr.specs.declared.fault.Place.{Place}
-use Rattle.routing_expr.specs.declared.fault.Place.TheVariants as place
-use Rattle.routing_expr.specs.declared.fault.CutFault.{CutFault}
-use Rattle.routing_expr.specs.declared.fault.CutFault.TheVariants as fault
-use Rattle.routing_expr.specs.WellFormed.{IsDanglingReference, IsShared, IsLeaked, IsWrongPlace, IsFirstCell, IsFirstPlace}
-use Rattle.routing_expr.specs.CutFaults.{HasDanglingReference, HasShared, HasLeaked, HasWrongField, IsFirstCutFault, IsSound}
-use Rattle.routing_expr.specs.Reaching.{IsInSomeTree}
-use Rattle.routing_expr.specs.Judging.{IsRightField}
-use Rattle.routing_expr.proofs.FaultLemmas.{no_reference, no_shared, no_leak, no_wrong_field, backbone_from}
+use Rattle.routing_walks.specs.declared.fault.Place.{Place}
+use Rattle.routing_walks.specs.declared.fault.Place.TheVariants as place
+use Rattle.routing_walks.specs.declared.fault.CutFault.{CutFault}
+use Rattle.routing_walks.specs.declared.fault.CutFault.TheVariants as fault
+use Rattle.routing_walks.specs.WellFormed.{IsDanglingReference, IsShared, IsLeaked, IsWrongPlace, IsFirstCell, IsFirstPlace, IsRightField}
+use Rattle.routing_walks.specs.CutFaults.{HasDanglingReference, HasShared, HasLeaked, HasWrongField, IsFirstCutFault, IsSound}
+use Rattle.routing_walks.specs.Reaching.{IsInSomeTree}
+use Rattle.routing_walks.proofs.FaultLemmas.{no_reference, no_shared, no_leak, no_wrong_field, backbone_from}
 
 -- ---- what a search has found
 

@@ -12,13 +12,13 @@ use Rattle.store_core.specs.declared.ids.CellId.{CellId}
 use Rattle.store_core.specs.declared.value.Value.{Value}
 use Rattle.store_core.specs.Tables.{TypeEntry, fields_of}
 use Rattle.store_core.specs.Stores.{StoreMap, CellEntry, IsLive, cell_of, field_of, field_value}
+use Rattle.routing_walks.specs.Walks.{Fields, Leads}
+use Rattle.routing_walks.specs.Gathering.{HasAll, Before}
+use Rattle.routing_walks.proofs.LiveLemmas.{Leads-live}
+use Rattle.routing_walks.proofs.KeyLemmas.{key_of_live}
 use Rattle.routing_expr.specs.declared.links.Link.{Link}
 use Rattle.routing_expr.specs.declared.followed.Followed.{Followed}
-use Rattle.routing_expr.specs.Walks.{Fields, Leads}
-use Rattle.routing_expr.specs.Gathering.{HasAll, Before}
 use Rattle.routing_expr.specs.Searches.{fields_in, IsLink}
-use Rattle.routing_expr.proofs.LiveLemmas.{Leads-live}
-use Rattle.routing_expr.proofs.KeyLemmas.{key_of_live}
 
 -- ---- what is known of a cell that is there
 

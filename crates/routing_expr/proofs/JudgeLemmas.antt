@@ -14,14 +14,14 @@ use Rattle.store_core.specs.declared.value.Value.TheVariants as value
 use Rattle.store_core.specs.CellLists.{AreRising}
 use Rattle.store_core.specs.Tables.{TypeEntry, FieldEntry, field_at}
 use Rattle.store_core.specs.Stores.{StoreMap, field_value}
-use Rattle.routing_expr.specs.declared.fault.Place.{Place}
-use Rattle.routing_expr.specs.declared.fault.Place.TheVariants as place
-use Rattle.routing_expr.specs.Destinations.{EndsWalk, EndsKind, Dest, IsOnlyDestination, IsPointer}
-use Rattle.routing_expr.specs.WellFormed.{IsWrongField, IsWrongPlace}
-use Rattle.routing_expr.specs.Searches.{Lists}
-use Rattle.routing_expr.specs.Places.{IsThere, ArePlaces}
-use Rattle.routing_expr.specs.Judging.{IsOnly, IsRightField, IsRightPlace}
-use Rattle.routing_expr.proofs.LiveLemmas.{IsSome-and}
+use Rattle.routing_walks.specs.declared.fault.Place.{Place}
+use Rattle.routing_walks.specs.declared.fault.Place.TheVariants as place
+use Rattle.routing_walks.specs.Destinations.{EndsWalk, EndsKind, Dest, IsOnlyDestination, IsPointer}
+use Rattle.routing_walks.specs.WellFormed.{IsWrongField, IsWrongPlace, IsRightField, IsThere}
+use Rattle.routing_walks.specs.Sets.{Lists}
+use Rattle.routing_walks.proofs.LiveLemmas.{IsSome-and}
+use Rattle.routing_expr.specs.Places.{ArePlaces}
+use Rattle.routing_expr.specs.Judging.{IsOnly, IsRightPlace}
 
 at_first : (d e : CellId) (cells : List CellId) → d ≡ e → Contains (d ∷ cells) e
 at_first d e cells same = (0, omega arith, same)

@@ -5,9 +5,9 @@ use Rattle.store_core.specs.declared.ids.VarId.{VarId}
 use Rattle.store_core.specs.declared.ids.CellId.{CellId}
 use Rattle.store_core.specs.Tables.{TypeEntry, VarEntry}
 use Rattle.store_core.specs.Stores.{StoreMap, IsLive}
-use Rattle.routing_expr.specs.WellFormed.{IsLeaked, IsFirstCell}
-use Rattle.routing_expr.specs.Regions.{IsReachedFrom}
-use Rattle.routing_expr.specs.Reaching.{IsInSomeTree, IsUnreached}
+use Rattle.routing_walks.specs.WellFormed.{IsLeaked, IsFirstCell}
+use Rattle.routing_walks.specs.Regions.{IsReachedFrom}
+use Rattle.routing_walks.specs.Reaching.{IsInSomeTree, IsUnreached}
 use Rattle.routing_expr.proofs.ReachLemmas.{known_within}
 
 module _ (types : List TypeEntry) (vars : List VarEntry) (s : StoreMap) (roots : List VarId) (all : (v : VarId) → v.0 < length vars → Contains roots v) where

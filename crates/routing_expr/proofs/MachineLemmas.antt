@@ -10,15 +10,15 @@ use Rattle.store_core.specs.declared.kind.Route.{Route}
 use Rattle.store_core.specs.declared.kind.Route.TheVariants as route
 use Rattle.store_core.specs.Tables.{TypeEntry}
 use Rattle.store_core.specs.Stores.{StoreMap}
-use Rattle.routing_expr.specs.Walks.{Fields, Chain, stay, go as go_round, Walk}
+use Rattle.routing_walks.specs.Walks.{Fields, Chain, stay, go as go_round, Walk}
+use Rattle.routing_walks.specs.Gathering.{Gathers, HasAll}
+use Rattle.routing_walks.proofs.WalkLemmas.{Walk-Then, Walk-Or, Walk-Star}
+use Rattle.routing_walks.proofs.LiveLemmas.{Walk-live, Chain-live}
+use Rattle.routing_walks.proofs.GatheringLemmas.{Contains-none, Contains-map, map-Contains, Gathers-both, Gathers-first, Gathers-last, Contains-one}
+use Rattle.routing_walks.proofs.GatheringLemmas.{Contains-here, Contains-there, Contains-cases}
 use Rattle.routing_expr.specs.declared.machine.Edge.{Edge}
 use Rattle.routing_expr.specs.declared.machine.Part.{Part}
 use Rattle.routing_expr.specs.Machines.{live, along, Arc, arc, arc_of, part_of, Takes, Path, stop, go, Means, IsPlan}
-use Rattle.routing_expr.specs.Gathering.{Gathers, HasAll}
-use Rattle.routing_expr.proofs.WalkLemmas.{Walk-Then, Walk-Or, Walk-Star}
-use Rattle.routing_expr.proofs.LiveLemmas.{Walk-live, Chain-live}
-use Rattle.routing_expr.proofs.GatheringLemmas.{Contains-none, Contains-map, map-Contains, Gathers-both, Gathers-first, Gathers-last, Contains-one}
-use Rattle.routing_expr.proofs.GatheringLemmas.{Contains-here, Contains-there, Contains-cases}
 
 apart : (m n : ℕ) → m < n → m ≡ n → ⊥
 apart m n below same = absurd (omega arith)

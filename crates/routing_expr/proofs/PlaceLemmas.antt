@@ -16,11 +16,11 @@ use Rattle.store_core.specs.declared.ids.CellId.{CellId}
 use Rattle.store_core.specs.declared.value.Value.{Value}
 use Rattle.store_core.specs.Tables.{TypeEntry, FieldEntry, VarEntry, fields_of}
 use Rattle.store_core.specs.Stores.{StoreMap, CellEntry, cell_of, field_of, SlotsFit, CellFits, VarsFit}
-use Rattle.routing_expr.specs.declared.fault.Place.{Place}
-use Rattle.routing_expr.specs.declared.fault.Place.TheVariants as place
-use Rattle.routing_expr.specs.WellFormed.{ComesBefore, IsFirstPlace}
-use Rattle.routing_expr.specs.Places.{IsThere, ArePlaces, IsListing, IsFieldOf, IsFieldBelow, IsVarBelow, IsOfFirst, ComesBeforeCell}
-use Rattle.routing_expr.proofs.KeyLemmas.{keys-rise, key_of_live}
+use Rattle.routing_walks.specs.declared.fault.Place.{Place}
+use Rattle.routing_walks.specs.declared.fault.Place.TheVariants as place
+use Rattle.routing_walks.specs.WellFormed.{ComesBefore, IsFirstPlace, IsThere}
+use Rattle.routing_walks.proofs.KeyLemmas.{keys-rise, key_of_live}
+use Rattle.routing_expr.specs.Places.{ArePlaces, IsListing, IsFieldOf, IsFieldBelow, IsVarBelow, IsOfFirst, ComesBeforeCell}
 
 pub not_itself : (p : Place) → ComesBefore p p → ⊥
 not_itself (place.Var v) h = omega arith

@@ -5,7 +5,7 @@ use Rattle.std.specs.List.Sorted.{IsPartitionPoint}
 use Rattle.std.proofs.lemmas.List.{get_or-take, get_or-drop, length-take, length-drop}
 use Rattle.std.proofs.lemmas.Bool.{cases_lt}
 use Rattle.std.proofs.lemmas.Bool.Decides.{nat_tests}
-use Rattle.routing_expr.specs.Gathering.{HasAll}
+use Rattle.routing_walks.specs.Gathering.{HasAll}
 
 not_below : (a b : ℕ) → ltb a b ≡ false → b ≤ a
 not_below a b test = grind (arith, nat_tests)

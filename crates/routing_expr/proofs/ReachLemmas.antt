@@ -14,19 +14,19 @@ use Rattle.store_core.specs.Tables.{TypeEntry, VarEntry, fields_of}
 use Rattle.store_core.specs.Stores.{StoreMap, CellEntry, IsLive, cell_of}
 use Rattle.store_core.proofs.Rising.{AreRising-push}
 use Rattle.store_core.proofs.FreshLemmas.{AllByRecursion-from}
-use Rattle.routing_expr.specs.declared.fault.Place.TheVariants as place
+use Rattle.routing_walks.specs.declared.fault.Place.TheVariants as place
+use Rattle.routing_walks.specs.Walks.{DataAlone, IsParent, Chain, stay, go}
+use Rattle.routing_walks.specs.WellFormed.{Names}
+use Rattle.routing_walks.specs.Regions.{IsReachedFrom, IsPart}
+use Rattle.routing_walks.specs.Sets.{Lists, Has}
+use Rattle.routing_walks.specs.Reaching.{IsUnreached}
 use Rattle.routing_expr.specs.declared.reach.Reach.{Reach}
-use Rattle.routing_expr.specs.Walks.{DataAlone, IsParent, Chain, stay, go}
-use Rattle.routing_expr.specs.WellFormed.{Names}
-use Rattle.routing_expr.specs.Regions.{IsReachedFrom, IsPart}
-use Rattle.routing_expr.specs.Searches.{Lists}
-use Rattle.routing_expr.specs.Sets.{Has}
-use Rattle.routing_expr.specs.Reaching.{IsRootCell, IsChild, IsUnreached, Reaches, IsReach}
+use Rattle.routing_expr.specs.Reached.{IsRootCell, IsChild, Reaches, IsReach}
 use Rattle.std.proofs.lemmas.List.Elements.{Contains-push, Contains-push_cases, Contains-append_left}
-use Rattle.routing_expr.proofs.LiveLemmas.{Leads-live, IsParent-live, Chain-live}
-use Rattle.routing_expr.proofs.KeyLemmas.{keys-rise, key_of_live, live_of_key}
+use Rattle.routing_walks.proofs.LiveLemmas.{Leads-live, IsParent-live, Chain-live}
+use Rattle.routing_walks.proofs.KeyLemmas.{keys-rise, key_of_live, live_of_key}
+use Rattle.routing_walks.proofs.TreeLemmas.{Names-there}
 use Rattle.routing_expr.proofs.PlaceLemmas.{typed, the_field}
-use Rattle.routing_expr.proofs.SharedLemmas.{there}
 
 -- one of the first of these data variables, as many as this, names the cell
 pub record IsRootBelow (types : List TypeEntry) (vars : List VarEntry) (s : StoreMap) (roots : List VarId) (n : ℕ) (c : CellId) : Type 0 where
@@ -136,7 +136,7 @@ module _ (types : List TypeEntry) (vars : List VarEntry) (s : StoreMap) where
       | inl less ↦ inl (record { field = h.field; below = less; names = h.names })
       | inr more ↦
           inr (subst (λ p. Names types vars s p c)
-          (the_field s parent ty n of parent h.field refl (omega (arith, h.below)) (there types vars s _ c h.names)) h.names)
+          (the_field s parent ty n of parent h.field refl (omega (arith, h.below)) (Names-there types vars s _ c h.names)) h.names)
     ],
   )
 
@@ -150,7 +150,7 @@ module _ (types : List TypeEntry) (vars : List VarEntry) (s : StoreMap) where
       below =
           let w = known_within (fields_of types h.field.ty) h.field.index _ h.names.place in
           let same : h.field.ty ≡ ty = ap (λ (k : ℕ). record { 0 = k })
-          (typed (cell_of s parent) h.field ty (there types vars s (place.Field parent h.field) c h.names) of) in
+          (typed (cell_of s parent) h.field ty (Names-there types vars s (place.Field parent h.field) c h.names) of) in
           let count : length (fields_of types h.field.ty) ≡ length (fields_of types ty) = ap (λ t. length (fields_of types t)) same in
           omega arith;
       names = h.names;

@@ -17,10 +17,10 @@ use Rattle.store_core.specs.declared.store.CellBody.{CellBody}
 use Rattle.store_core.specs.Stores.{StoreMap, CellEntry, IsAbove}
 use Rattle.store_core.specs.StoreBodies.{cell_entry, cells_of, AreInOrder, AreLive, IsKept}
 use Rattle.store_core.proofs.AboveLemmas.{tied, ties, differs}
-use Rattle.routing_expr.specs.Regions.{has_number}
-use Rattle.routing_expr.specs.Sets.{Has}
-use Rattle.routing_expr.proofs.KeyLemmas.{both_first, both_second, is_less}
 use Rattle.store_core.proofs.Cells.{and_T}
+use Rattle.routing_walks.specs.Regions.{has_number}
+use Rattle.routing_walks.specs.Sets.{Has}
+use Rattle.routing_walks.proofs.KeyLemmas.{both_first, both_second, is_less}
 
 -- ---- the numbers of a set
 

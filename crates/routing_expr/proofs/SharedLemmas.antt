@@ -1,15 +1,16 @@
 -- Cells that are named twice.
-use Rattle.std.proofs.Common.{◌≡◌, ◌⊎◌, ◌↔◌, ℕ, ◌+◌, ◌<◌, ◌≤◌, List, length, get_or, slice_get, Option, Some, None, IsSome, IsSomeAnd, refl, sym, ap}
+use Rattle.std.proofs.Common.{◌≡◌, ◌⊎◌, ◌↔◌, ℕ, ◌+◌, ◌<◌, ◌≤◌, List, length, get_or, slice_get, Option, Some, None, IsSomeAnd, refl, sym, ap}
 use Rattle.std.proofs.Common.{◌∙◌, subst, arith, inl, inr}
 use Rattle.std.proofs.lemmas.Bool.{cases_order, cases_lt}
 use Rattle.std.proofs.lemmas.Option.{slice_get-get_or, slice_get_within, get_or_from_slice_get}
 use Rattle.store_core.specs.declared.ids.CellId.{CellId}
 use Rattle.store_core.specs.Tables.{TypeEntry, VarEntry}
 use Rattle.store_core.specs.Stores.{StoreMap, IsLive}
-use Rattle.routing_expr.specs.declared.fault.Place.{Place}
+use Rattle.routing_walks.specs.declared.fault.Place.{Place}
+use Rattle.routing_walks.specs.WellFormed.{Names, ComesBefore, IsShared}
+use Rattle.routing_walks.proofs.TreeLemmas.{Names-there}
 use Rattle.routing_expr.specs.declared.shared.Named.{Named}
-use Rattle.routing_expr.specs.WellFormed.{Names, ComesBefore, IsShared}
-use Rattle.routing_expr.specs.Places.{IsThere, ArePlaces}
+use Rattle.routing_expr.specs.Places.{ArePlaces}
 use Rattle.routing_expr.specs.Naming.{NamesLive, NamesAt, IsNamedBelow, IsNamedTwiceBelow, Counts}
 use Rattle.routing_expr.proofs.PlaceLemmas.{not_itself}
 
@@ -34,10 +35,6 @@ counts_alike P Q old new alike h = record {
 }
 
 module _ (types : List TypeEntry) (vars : List VarEntry) (s : StoreMap) where
-  -- a data variable or a data field that names a cell is there
-  pub there : (p : Place) (c : CellId) → Names types vars s p c → IsThere s p
-  there p c h = subst IsSome (sym h.value) refl
-
   module _ (places : List Place) where
     -- one place more
     pub below_step : (n : ℕ) (p : Place) → slice_get places n ≡ Some p → (c : CellId) →
@@ -86,7 +83,7 @@ module _ (types : List TypeEntry) (vars : List VarEntry) (s : StoreMap) where
 
     -- the number of a place that names a live cell
     number_of : ArePlaces s places → (p : Place) (c : CellId) → IsLive s c → Names types vars s p c → (k : ℕ) × (slice_get places k ≡ Some p)
-    number_of are p c live names = let m = are.complete p (there p c names) in (m.0, slice_get-get_or places m.0 p m.1 ∙ ap Some m.2)
+    number_of are p c live names = let m = are.complete p (Names-there types vars s p c names) in (m.0, slice_get-get_or places m.0 p m.1 ∙ ap Some m.2)
 
     named_at : (k : ℕ) (p : Place) (c : CellId) → IsLive s c → Names types vars s p c → slice_get places k ≡ Some p → NamesAt types vars s places k c
     named_at k p c live names at = subst (λ o. IsSomeAnd o (λ q. NamesLive types vars s q c)) (sym at) (record { live = live; names = names })

@@ -16,16 +16,17 @@ use Rattle.store_core.specs.CellLists.{AreRising}
 use Rattle.store_core.specs.Tables.{TypeEntry}
 use Rattle.store_core.specs.Stores.{StoreMap}
 use Rattle.store_core.proofs.Rising.{AreRising-push}
+use Rattle.routing_walks.specs.Walks.{Fields, Walk}
+use Rattle.routing_walks.specs.Gathering.{HasAll, Before, Grows}
+use Rattle.routing_walks.specs.Sets.{Lists}
+use Rattle.routing_walks.proofs.GatheringLemmas.{below_suc, Contains-at, place_in, Contains-one, Contains-here, Contains-there, Contains-map}
+use Rattle.routing_walks.proofs.GatheringLemmas.{map-Contains, Gathers-push}
 use Rattle.routing_expr.specs.declared.search.Spot.{Spot}
 use Rattle.routing_expr.specs.declared.machine.Edge.{Edge}
 use Rattle.routing_expr.specs.contracts.search.SpotPartialEq.TheImpl as spot_eq
-use Rattle.routing_expr.specs.Walks.{Fields, Walk}
-use Rattle.routing_expr.specs.Gathering.{HasAll, Before, Grows}
-use Rattle.routing_expr.specs.Searches.{Lists, IsWanted}
+use Rattle.routing_expr.specs.Searches.{IsWanted}
 use Rattle.routing_expr.specs.Machines.{Arc, arc_of, label_of, Takes, Path, stop, go, Means}
 use Rattle.routing_expr.specs.Spots.{Follows, IsAtEnd}
-use Rattle.routing_expr.proofs.GatheringLemmas.{below_suc, Contains-at, place_in, Contains-one, Contains-here, Contains-there, Contains-map}
-use Rattle.routing_expr.proofs.GatheringLemmas.{map-Contains, Gathers-push}
 use Rattle.routing_expr.proofs.MachineLemmas.{Path-then}
 
 -- what is read past the end of a list of spots

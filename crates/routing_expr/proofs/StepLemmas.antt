@@ -17,15 +17,15 @@ use Rattle.store_core.specs.Tables.{IsTypeEntry}
 use Rattle.store_core.specs.Stores.{StoreMap}
 use Rattle.store_core.proofs.Bodies.{AllByRecursion-at}
 use Rattle.store_core.proofs.Names.{place_of-at}
+use Rattle.routing_walks.proofs.WalkLemmas.{Walk-Root, Walk-Leaf, Walk-IsType, Walk-IsVariant, Walk-IsBool}
+use Rattle.routing_walks.specs.Walks.{Fields, Stays, DataAlone, IsFollowed, Leads, LeadsByName, IsParent, IsNamed}
+use Rattle.routing_walks.specs.Gathering.{Gathers, HasAll, Before}
+use Rattle.routing_walks.proofs.GatheringLemmas.{Contains-at, place_in, Gathers-none, Gathers-push, Gathers-alike}
 use Rattle.routing_expr.specs.declared.links.Link.{Link}
 use Rattle.routing_expr.specs.declared.machine.Test.{Test}
 use Rattle.routing_expr.specs.declared.machine.Test.TheVariants as test
 use Rattle.routing_expr.specs.Machines.{label_of_test, Takes}
-use Rattle.routing_expr.proofs.WalkLemmas.{Walk-Root, Walk-Leaf, Walk-IsType, Walk-IsVariant, Walk-IsBool}
-use Rattle.routing_expr.specs.Walks.{Fields, Stays, DataAlone, IsFollowed, Leads, LeadsByName, IsParent, IsNamed}
-use Rattle.routing_expr.specs.Gathering.{Gathers, HasAll, Before}
 use Rattle.routing_expr.specs.Searches.{IsLink}
-use Rattle.routing_expr.proofs.GatheringLemmas.{Contains-at, place_in, Gathers-none, Gathers-push, Gathers-alike}
 
 -- ---- names
 

@@ -1,15 +1,7 @@
-pub mod Walks
-pub mod Destinations
-pub mod WellFormed
-pub mod CutFaults
 pub mod Places
-pub mod Sets
 pub mod Naming
-pub mod Reaching
+pub mod Reached
 pub mod Judging
-pub mod Laws
-pub mod Gathering
 pub mod Searches
-pub mod Regions
 pub mod Machines
 pub mod Spots

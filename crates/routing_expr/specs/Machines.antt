@@ -8,6 +8,8 @@ use Rattle.store_core.specs.declared.kind.Route.TheOpen.{Route-F}
 use Rattle.store_core.specs.declared.kind.Route.TheFolds.{fold-Route}
 use Rattle.store_core.specs.Tables.{TypeEntry}
 use Rattle.store_core.specs.Stores.{StoreMap, IsLive}
+use Rattle.routing_walks.specs.Gathering.{Gathers}
+use Rattle.routing_walks.specs.Walks.{Fields, Stays, Walk}
 use Rattle.routing_expr.specs.declared.machine.Test.{Test}
 use Rattle.routing_expr.specs.declared.machine.Test.TheVariants as test
 use Rattle.routing_expr.specs.declared.machine.Step.{Step}
@@ -15,8 +17,6 @@ use Rattle.routing_expr.specs.declared.machine.Step.TheVariants as step
 use Rattle.routing_expr.specs.declared.machine.Edge.{Edge}
 use Rattle.routing_expr.specs.declared.machine.Part.{Part}
 use Rattle.routing_expr.specs.declared.machine.Plan.{Plan}
-use Rattle.routing_expr.specs.Gathering.{Gathers}
-use Rattle.routing_expr.specs.Walks.{Fields, Stays, Walk}
 
 -- what a way takes: a live cell to itself, or the walks of a route
 pub data Label : Type 0 where

@@ -3,10 +3,10 @@ use Rattle.std.specs.Prelude.{◌⊎◌, ◌↔◌, ◌<◌, ℕ, List, IsSomeAn
 use Rattle.store_core.specs.declared.ids.CellId.{CellId}
 use Rattle.store_core.specs.Tables.{TypeEntry, VarEntry}
 use Rattle.store_core.specs.Stores.{StoreMap, IsLive}
-use Rattle.routing_expr.specs.declared.fault.Place.{Place}
+use Rattle.routing_walks.specs.declared.fault.Place.{Place}
+use Rattle.routing_walks.specs.WellFormed.{Names}
+use Rattle.routing_walks.specs.Sets.{Has}
 use Rattle.routing_expr.specs.declared.shared.Named.{Named}
-use Rattle.routing_expr.specs.WellFormed.{Names}
-use Rattle.routing_expr.specs.Sets.{Has}
 
 -- the place names the cell, which is live
 pub record NamesLive (types : List TypeEntry) (vars : List VarEntry) (s : StoreMap) (p : Place) (c : CellId) : Type 0 where

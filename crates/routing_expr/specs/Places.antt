@@ -1,17 +1,13 @@
 -- All places of a store, as a list in their order.
-use Rattle.std.specs.Prelude.{◌≡◌, ◌⊎◌, ◌↔◌, ◌<◌, ℕ, List, slice_get, Some, IsSome, Contains}
+use Rattle.std.specs.Prelude.{◌≡◌, ◌⊎◌, ◌↔◌, ◌<◌, ℕ, List, slice_get, Some, Contains}
 use Rattle.std.specs.List.{AllPairs}
 use Rattle.std.specs.FinMap.{keys}
 use Rattle.store_core.specs.declared.ids.CellId.{CellId}
 use Rattle.store_core.specs.declared.value.Value.{Value}
 use Rattle.store_core.specs.Stores.{StoreMap}
-use Rattle.routing_expr.specs.declared.fault.Place.{Place}
-use Rattle.routing_expr.specs.declared.fault.Place.TheVariants as place
-use Rattle.routing_expr.specs.WellFormed.{value_at, ComesBefore, NamesDead, HoldsDead}
-
--- a value stands at the place
-abbrev pub IsThere : StoreMap → Place → Type 0
-IsThere s p = IsSome (value_at s p)
+use Rattle.routing_walks.specs.declared.fault.Place.{Place}
+use Rattle.routing_walks.specs.declared.fault.Place.TheVariants as place
+use Rattle.routing_walks.specs.WellFormed.{IsThere, ComesBefore, NamesDead, HoldsDead}
 
 -- the places are in order, and each at which a value stands is among them
 pub record ArePlaces (s : StoreMap) (places : List Place) : Type 0 where

@@ -1,26 +1,20 @@
 -- What a search is asked for, and the index that it uses.
-use Rattle.std.specs.Prelude.{◌↔◌, ℕ, List, Option, Some, None, Contains}
+use Rattle.std.specs.Prelude.{ℕ, List, Option, Some, None}
 use Rattle.store_core.specs.declared.ids.TypeId.{TypeId}
 use Rattle.store_core.specs.declared.ids.CellId.{CellId}
-use Rattle.store_core.specs.CellLists.{AreRising}
 use Rattle.store_core.specs.Tables.{TypeEntry}
 use Rattle.store_core.specs.Stores.{StoreMap}
+use Rattle.routing_walks.specs.Walks.{Fields, DataAlone, DataAndPointers, Leads, LeadsByName, IsOfType}
+use Rattle.routing_walks.specs.Gathering.{HasAll}
 use Rattle.routing_expr.specs.declared.followed.Followed.{Followed}
 use Rattle.routing_expr.specs.declared.followed.Followed.TheVariants as followed
 use Rattle.routing_expr.specs.declared.links.Link.{Link}
 use Rattle.routing_expr.specs.declared.search.Search.{Search}
-use Rattle.routing_expr.specs.Walks.{Fields, DataAlone, DataAndPointers, Leads, LeadsByName, IsOfType}
-use Rattle.routing_expr.specs.Gathering.{HasAll}
 
 -- the fields that are followed
 abbrev pub fields_in : Followed → Fields
 fields_in followed.Data = DataAlone
 fields_in followed.DataAndPointers = DataAndPointers
-
--- the list has the cells that belong, each once, by number
-pub record Lists (Belongs : CellId → Type 0) (cells : List CellId) : Type 0 where
-  pub rising : AreRising cells
-  pub members : (d : CellId) → Contains cells d ↔ Belongs d
 
 -- the field of the parent is followed and leads to the child
 abbrev pub IsLink : List TypeEntry → StoreMap → Fields → Link → Type 0

@@ -4,11 +4,11 @@ use Rattle.store_core.specs.declared.ids.TypeId.{TypeId}
 use Rattle.store_core.specs.declared.ids.CellId.{CellId}
 use Rattle.store_core.specs.Tables.{TypeEntry}
 use Rattle.store_core.specs.Stores.{StoreMap}
+use Rattle.routing_walks.specs.Walks.{Fields}
 use Rattle.routing_expr.specs.declared.machine.Edge.{Edge}
 use Rattle.routing_expr.specs.declared.machine.Machine.{Machine}
 use Rattle.routing_expr.specs.declared.search.Search.{Search}
 use Rattle.routing_expr.specs.declared.search.Spot.{Spot}
-use Rattle.routing_expr.specs.Walks.{Fields}
 use Rattle.routing_expr.specs.Searches.{IsWanted, fields_in}
 use Rattle.routing_expr.specs.Machines.{Label, Arc, label_of, arc_of, Takes, Path}
 

@@ -1,9 +1,10 @@
 //! Where a pointer field has to point, and where a walk leads.
 
 ghost use Rattle.std.specs.Prelude.{◌≡◌, IfOk};
-ghost use Rattle.routing_expr.specs.Walks.{Walk};
-ghost use Rattle.routing_expr.specs.Destinations.{EndsWalk};
-ghost use Rattle.routing_expr.specs.Searches.{Lists, fields_in};
+ghost use Rattle.routing_walks.specs.Walks.{Walk};
+ghost use Rattle.routing_walks.specs.Destinations.{EndsWalk};
+ghost use Rattle.routing_walks.specs.Sets.{Lists};
+ghost use Rattle.routing_expr.specs.Searches.{fields_in};
 
 use crate::followed::Followed;
 use crate::search::Search;

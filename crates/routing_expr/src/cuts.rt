@@ -2,17 +2,17 @@
 
 ghost use Rattle.std.specs.Prelude.{◌≡◌, ◌↔◌, None, Some, IfOk};
 ghost use Rattle.store_core.specs.Stores.{Fits};
-ghost use Rattle.routing_expr.specs.declared.fault.CutFault.{CutFault};
-ghost use Rattle.routing_expr.specs.CutFaults.{IsFirstCutFault, IsSound};
+ghost use Rattle.routing_walks.specs.declared.fault.CutFault.{CutFault};
+ghost use Rattle.routing_walks.specs.CutFaults.{IsFirstCutFault, IsSound};
 
 use crate::dangling::has_dangling_reference;
-use crate::fault::CutFault;
 use crate::followed::Followed;
 use crate::leak::first_leak;
 use crate::places::list_places;
 use crate::search::Search;
 use crate::shared::first_shared;
 use crate::wrong_field::first_wrong_place;
+use routing_walks::CutFault;
 use std::alloc::{AllocError, Global};
 use store_core::{Store, TypeTable, VarTable};
 

@@ -2,14 +2,14 @@
 
 ghost use Rattle.std.specs.Prelude.{◌≡◌, ◌↔◌, None, IsTrue, IfNone, IfSome, Any};
 ghost use Rattle.store_core.specs.Stores.{cell_of};
-ghost use Rattle.routing_expr.specs.declared.fault.Place.{Place};
+ghost use Rattle.routing_walks.specs.declared.fault.Place.{Place};
 ghost use Rattle.std.specs.Bool.{OnTrue, OnFalse};
-ghost use Rattle.routing_expr.specs.WellFormed.{NamesDead, IsDanglingReference, IsDangling, IsFirstPlace};
-ghost use Rattle.routing_expr.specs.CutFaults.{HasDanglingReference};
+ghost use Rattle.routing_walks.specs.WellFormed.{NamesDead, IsDanglingReference, IsDangling, IsFirstPlace};
+ghost use Rattle.routing_walks.specs.CutFaults.{HasDanglingReference};
 ghost use Rattle.routing_expr.specs.Places.{ArePlaces, HasDead};
 
-use crate::fault::Place;
 use crate::places::value_at;
+use routing_walks::Place;
 use store_core::{CellId, Store, Value};
 
 /// Whether the cell isn't live. Takes no memory.

@@ -2,16 +2,16 @@
 
 ghost use Rattle.std.specs.Prelude.{◌≡◌, ◌↔◌, None, IfOk, IfSome};
 ghost use Rattle.store_core.specs.Stores.{Fits};
-ghost use Rattle.routing_expr.specs.WellFormed.{IsWellFormed, IsFirstFault};
+ghost use Rattle.routing_walks.specs.WellFormed.{IsWellFormed, IsFirstFault};
 
 use crate::dangling::first_dangling;
-use crate::fault::{Place, WfFault};
 use crate::followed::Followed;
 use crate::leak::first_leak;
 use crate::places::list_places;
 use crate::search::Search;
 use crate::shared::first_shared;
 use crate::wrong_field::first_wrong_place;
+use routing_walks::{Place, WfFault};
 use std::alloc::{AllocError, Global};
 use store_core::{Store, TypeTable, VarTable};
 

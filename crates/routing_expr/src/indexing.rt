@@ -4,8 +4,8 @@ ghost use Rattle.std.specs.Prelude.{◌≡◌, ◌↔◌, Some, IfOk, OnOk, IsTr
 ghost use Rattle.store_core.specs.declared.ids.CellId.{CellId};
 ghost use Rattle.store_core.specs.Tables.{field_at};
 ghost use Rattle.store_core.specs.Stores.{field_value};
-ghost use Rattle.routing_expr.specs.Walks.{Leads, IsFollowed};
-ghost use Rattle.routing_expr.specs.Gathering.{Gathers, HasAll};
+ghost use Rattle.routing_walks.specs.Walks.{Leads, IsFollowed};
+ghost use Rattle.routing_walks.specs.Gathering.{Gathers, HasAll};
 ghost use Rattle.routing_expr.specs.Searches.{fields_in, IsLink};
 
 use crate::followed::Followed;

@@ -4,8 +4,8 @@ ghost use Rattle.std.specs.Prelude.{◌<◌, length, IfOk, IfNone, IfSome, Conta
 ghost use Rattle.store_core.specs.declared.ids.CellId.{CellId};
 ghost use Rattle.store_core.specs.declared.ids.VarId.{VarId};
 ghost use Rattle.store_core.specs.Stores.{IsLive};
-ghost use Rattle.routing_expr.specs.WellFormed.{IsLeaked, IsFirstCell};
-ghost use Rattle.routing_expr.specs.Reaching.{IsInSomeTree};
+ghost use Rattle.routing_walks.specs.WellFormed.{IsLeaked, IsFirstCell};
+ghost use Rattle.routing_walks.specs.Reaching.{IsInSomeTree};
 
 use crate::numbers::least;
 use crate::reach::unreached;

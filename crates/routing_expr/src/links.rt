@@ -2,7 +2,7 @@
 
 ghost use Rattle.std.specs.Prelude.{◌≡◌, Contains};
 ghost use Rattle.std.specs.List.Sorted.{IsNonDecreasingBy};
-ghost use Rattle.routing_expr.specs.Gathering.{HasAll};
+ghost use Rattle.routing_walks.specs.Gathering.{HasAll};
 
 use store_core::{CellId, FieldId};
 

@@ -5,7 +5,7 @@ ghost use Rattle.std.specs.Prelude.{◌≡◌, ◌+◌, ◌≤◌, IfOk, OnOk, m
 ghost use Rattle.std.specs.List.Sorted.{IsNonDecreasingBy};
 ghost use Rattle.store_core.specs.declared.kind.Route.{Route};
 ghost use Rattle.store_core.specs.declared.kind.Route.TheVariants as route;
-ghost use Rattle.routing_expr.specs.Gathering.{HasAll};
+ghost use Rattle.routing_walks.specs.Gathering.{HasAll};
 ghost use Rattle.routing_expr.specs.Machines.{along, arc, label_of, arc_of, arcs_of, part_count, parts_left, Adds, StandsFor, Means, IsPlan};
 
 use std::alloc::{AllocError, Global};

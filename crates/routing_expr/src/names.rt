@@ -2,10 +2,10 @@
 
 ghost use Rattle.std.specs.Prelude.{◌≡◌, ◌↔◌, Some, IsTrue};
 ghost use Rattle.store_core.specs.declared.ids.CellId.{CellId};
-ghost use Rattle.routing_expr.specs.WellFormed.{IsDataPlace, Names};
+ghost use Rattle.routing_walks.specs.WellFormed.{IsDataPlace, Names};
 
-use crate::fault::Place;
 use crate::places::value_at;
+use routing_walks::Place;
 use store_core::{CellId, FieldKind, Store, TypeTable, Value, VarKind, VarTable};
 
 /// Whether the place is a data variable or a data field. Takes no memory.

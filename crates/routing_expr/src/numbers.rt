@@ -2,8 +2,8 @@
 
 ghost use Rattle.std.specs.Prelude.{IfNone, IfSome};
 ghost use Rattle.store_core.specs.declared.ids.CellId.{CellId};
-ghost use Rattle.routing_expr.specs.WellFormed.{IsFirstCell};
-ghost use Rattle.routing_expr.specs.Sets.{Has};
+ghost use Rattle.routing_walks.specs.WellFormed.{IsFirstCell};
+ghost use Rattle.routing_walks.specs.Sets.{Has};
 
 use std::collections::BTreeSet;
 use store_core::CellId;

@@ -5,13 +5,13 @@ ghost use Rattle.std.specs.List.{AllPairs};
 ghost use Rattle.std.specs.Option.{option_copied};
 ghost use Rattle.store_core.specs.declared.ids.CellId.{CellId};
 ghost use Rattle.store_core.specs.Stores.{cell_of, CellFits, Fits};
-ghost use Rattle.routing_expr.specs.declared.fault.Place.{Place};
-ghost use Rattle.routing_expr.specs.declared.fault.Place.TheVariants as place;
-ghost use Rattle.routing_expr.specs.WellFormed as wf;
-ghost use Rattle.routing_expr.specs.WellFormed.{ComesBefore};
-ghost use Rattle.routing_expr.specs.Places.{IsThere, ArePlaces, IsListing, IsVarBelow, IsFieldOf, ComesBeforeCell};
+ghost use Rattle.routing_walks.specs.declared.fault.Place.{Place};
+ghost use Rattle.routing_walks.specs.declared.fault.Place.TheVariants as place;
+ghost use Rattle.routing_walks.specs.WellFormed as wf;
+ghost use Rattle.routing_walks.specs.WellFormed.{ComesBefore, IsThere};
+ghost use Rattle.routing_expr.specs.Places.{ArePlaces, IsListing, IsVarBelow, IsFieldOf, ComesBeforeCell};
 
-use crate::fault::Place;
+use routing_walks::Place;
 use std::alloc::{AllocError, Global};
 use store_core::{CellId, FieldId, Store, TypeTable, Value, VarId, VarTable};
 

@@ -3,14 +3,14 @@
 ghost use Rattle.std.specs.Prelude.{◌≡◌, ◌⊎◌, ◌↔◌, IfOk, OnOk};
 ghost use Rattle.store_core.specs.declared.ids.CellId.{CellId};
 ghost use Rattle.store_core.specs.Stores.{IsLive};
-ghost use Rattle.routing_expr.specs.WellFormed.{Names};
-ghost use Rattle.routing_expr.specs.Regions.{IsReachedFrom, IsPart};
-ghost use Rattle.routing_expr.specs.Searches.{Lists};
-ghost use Rattle.routing_expr.specs.Sets.{Has};
-ghost use Rattle.routing_expr.specs.Reaching.{IsRootCell, IsChild, IsUnreached, Reaches};
+ghost use Rattle.routing_walks.specs.WellFormed.{Names};
+ghost use Rattle.routing_walks.specs.Regions.{IsReachedFrom, IsPart};
+ghost use Rattle.routing_walks.specs.Sets.{Lists, Has};
+ghost use Rattle.routing_walks.specs.Reaching.{IsUnreached};
+ghost use Rattle.routing_expr.specs.Reached.{IsRootCell, IsChild, Reaches};
 
-use crate::fault::Place;
 use crate::names::named_cell;
+use routing_walks::Place;
 use std::alloc::{AllocError, Global};
 use std::collections::BTreeSet;
 use store_core::{CellId, CellList, FieldId, Store, TypeTable, VarId, VarTable};

@@ -7,10 +7,10 @@ ghost use Rattle.std.specs.BTreeSet.{contains};
 ghost use Rattle.std.specs.FinMap.{entries};
 ghost use Rattle.store_core.specs.StoreBodies.{cells_of, AreLive};
 ghost use Rattle.store_core.specs.declared.ids.CellId.{CellId};
-ghost use Rattle.routing_expr.specs.Walks.{Walk};
-ghost use Rattle.routing_expr.specs.Searches.{Lists, fields_in};
-ghost use Rattle.routing_expr.specs.Regions as regions;
-ghost use Rattle.routing_expr.specs.Sets.{Has};
+ghost use Rattle.routing_walks.specs.Walks.{Walk};
+ghost use Rattle.routing_walks.specs.Sets.{Lists, Has};
+ghost use Rattle.routing_walks.specs.Regions as regions;
+ghost use Rattle.routing_expr.specs.Searches.{fields_in};
 
 use crate::calls::ends;
 use crate::followed::Followed;

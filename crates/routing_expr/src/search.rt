@@ -4,10 +4,11 @@ ghost use Rattle.std.specs.Prelude.{◌≡◌, ◌≤◌, ◌-◌, length, slice
 ghost use Rattle.std.specs.List.{AllByRecursion};
 ghost use Rattle.store_core.specs.declared.ids.CellId.{CellId};
 ghost use Rattle.store_core.specs.CellLists.{AreRising};
-ghost use Rattle.routing_expr.specs.Walks.{Walk};
-ghost use Rattle.routing_expr.specs.Destinations.{EndsWalk};
-ghost use Rattle.routing_expr.specs.Gathering.{HasAll, Grows};
-ghost use Rattle.routing_expr.specs.Searches.{Lists, IsIndexed, IsWanted, fields_in};
+ghost use Rattle.routing_walks.specs.Walks.{Walk};
+ghost use Rattle.routing_walks.specs.Destinations.{EndsWalk};
+ghost use Rattle.routing_walks.specs.Gathering.{HasAll, Grows};
+ghost use Rattle.routing_walks.specs.Sets.{Lists};
+ghost use Rattle.routing_expr.specs.Searches.{IsIndexed, IsWanted, fields_in};
 ghost use Rattle.routing_expr.specs.Spots.{EdgeLeads, FollowsIn, IsReached, IsAtEnd};
 
 use crate::followed::Followed;

@@ -3,14 +3,14 @@
 ghost use Rattle.std.specs.Prelude.{◌≡◌, ◌↔◌, IsTrue, IsSome, IfOk, IfNone, IfSome, OnOk};
 ghost use Rattle.store_core.specs.declared.ids.CellId.{CellId};
 ghost use Rattle.store_core.specs.Stores.{cell_of};
-ghost use Rattle.routing_expr.specs.WellFormed.{IsShared, IsFirstCell};
+ghost use Rattle.routing_walks.specs.WellFormed.{IsShared, IsFirstCell};
+ghost use Rattle.routing_walks.specs.Sets.{Has};
 ghost use Rattle.routing_expr.specs.Places.{ArePlaces};
-ghost use Rattle.routing_expr.specs.Sets.{Has};
 ghost use Rattle.routing_expr.specs.Naming.{NamesLive, Counts};
 
-use crate::fault::Place;
 use crate::names::named_cell;
 use crate::numbers::least;
+use routing_walks::Place;
 use std::alloc::{AllocError, Global};
 use std::collections::BTreeSet;
 use store_core::{CellId, Store, TypeTable, VarTable};

@@ -4,8 +4,8 @@ ghost use Rattle.std.specs.Prelude.{◌≡◌, ◌↔◌, Some, IfOk, IsTrue, Is
 ghost use Rattle.store_core.specs.declared.ids.CellId.{CellId};
 ghost use Rattle.store_core.specs.declared.ids.FieldId.{FieldId};
 ghost use Rattle.store_core.specs.Tables.{field_at};
-ghost use Rattle.routing_expr.specs.Walks.{DataAlone, IsNamed, IsParent, IsFollowed, IsRoot, IsLeaf, IsOfType, IsOfVariant, HasTruth};
-ghost use Rattle.routing_expr.specs.Gathering.{HasAll};
+ghost use Rattle.routing_walks.specs.Walks.{DataAlone, IsNamed, IsParent, IsFollowed, IsRoot, IsLeaf, IsOfType, IsOfVariant, HasTruth};
+ghost use Rattle.routing_walks.specs.Gathering.{HasAll};
 ghost use Rattle.routing_expr.specs.Searches.{IsIndexed, LeadsIn};
 ghost use Rattle.routing_expr.specs.Machines.{label_of, label_of_test};
 ghost use Rattle.routing_expr.specs.Spots.{TakesIn};

@@ -1,8 +1,9 @@
 //! Searches for the ends of walks that share one index.
 
 ghost use Rattle.std.specs.Prelude.{◌≡◌, IfOk};
-ghost use Rattle.routing_expr.specs.Walks.{Walk};
-ghost use Rattle.routing_expr.specs.Searches.{Lists, fields_in};
+ghost use Rattle.routing_walks.specs.Walks.{Walk};
+ghost use Rattle.routing_walks.specs.Sets.{Lists};
+ghost use Rattle.routing_expr.specs.Searches.{fields_in};
 
 use crate::followed::Followed;
 use crate::search::Search;

@@ -4,15 +4,15 @@ ghost use Rattle.std.specs.Prelude.{◌≡◌, ◌↔◌, IsTrue, IfOk, IfNone, 
 ghost use Rattle.std.specs.Bool.{OnTrue, OnFalse};
 ghost use Rattle.store_core.specs.declared.ids.CellId.{CellId};
 ghost use Rattle.store_core.specs.declared.ids.FieldId.{FieldId};
+ghost use Rattle.routing_walks.specs.WellFormed.{IsWrongField, IsWrongPlace, IsFirstPlace, IsRightField};
 ghost use Rattle.routing_expr.specs.declared.followed.Followed.TheVariants as followed;
-ghost use Rattle.routing_expr.specs.WellFormed.{IsWrongField, IsWrongPlace, IsFirstPlace};
 ghost use Rattle.routing_expr.specs.Searches.{IsIndexed};
 ghost use Rattle.routing_expr.specs.Places.{ArePlaces};
-ghost use Rattle.routing_expr.specs.Judging.{IsOnly, IsRightField, IsRightPlace};
+ghost use Rattle.routing_expr.specs.Judging.{IsOnly, IsRightPlace};
 
-use crate::fault::Place;
 use crate::followed::Followed;
 use crate::search::Search;
+use routing_walks::Place;
 use std::alloc::AllocError;
 use store_core::{CellId, FieldId, FieldKind, Value};
 

@@ -4,9 +4,9 @@ use Rattle.std.proofs.lemmas.Option.{same_Some}
 use Rattle.store_core.specs.Tables.{TypeEntry, VarEntry}
 use Rattle.store_core.proofs.Bodies.{AllByRecursion-at}
 use Rattle.store_logic.specs.Fits.{KnowsVars}
-use Rattle.pale_types.specs.declared.typed.ProcEntry.{ProcEntry}
-use Rattle.pale_types.specs.TypedPrograms.{TypedProgram}
-use Rattle.pale_types.specs.Fitting.{ProgramFits, ProcFits}
+use Rattle.pale_typed.specs.declared.typed.ProcEntry.{ProcEntry}
+use Rattle.pale_typed.specs.TypedPrograms.{TypedProgram}
+use Rattle.pale_typed.specs.Fitting.{ProgramFits, ProcFits}
 
 of-entry : (types : List TypeEntry) (procs : List ProcEntry) (here : Option ProcEntry) (vars : List VarEntry)
     → ((e : ProcEntry) → here ≡ Some e → ProcFits types procs e)

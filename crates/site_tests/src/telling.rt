@@ -1,13 +1,14 @@
 //! What is told of the sites of a text's triples.
 
 ghost use Rattle.std.specs.Prelude.{◌<◌, length};
-ghost use Rattle.pale_types.specs.Fitting.{ProgramFits};
+ghost use Rattle.pale_typed.specs.Fitting.{ProgramFits};
 
 use crate::spelled::push_formula;
 use hoare_split::split;
 use pale_parse::parse;
 use pale_text::{TextStop, lex};
-use pale_types::{Typed, check_types};
+use pale_typed::Typed;
+use pale_types::check_types;
 use pred_transform::triple_formula;
 use site_list::{SiteList, sites};
 use std::alloc::{AllocError, Global};

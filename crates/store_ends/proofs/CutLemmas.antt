@@ -9,14 +9,14 @@ use Rattle.store_core.specs.declared.value.Value.{Value}
 use Rattle.store_core.specs.declared.value.Value.TheVariants as value
 use Rattle.store_core.specs.Tables.{TypeEntry, VarEntry, var_at}
 use Rattle.store_core.specs.Stores.{StoreMap, Fits, var_value}
-use Rattle.routing_expr.specs.CutFaults.{IsSound}
-use Rattle.routing_expr.specs.Regions.{IsReachedFrom}
-use Rattle.routing_expr.proofs.LiveLemmas.{IsSome-and}
-use Rattle.routing_laws.specs.Deciding.{Decided}
-use Rattle.routing_laws.specs.Shown.{HasCause}
-use Rattle.routing_laws.proofs.DecidedLemmas.{decided_as, decided_both, decided_either, decided_not, decided_number, decided_some, decided_in, decided_below}
-use Rattle.routing_laws.proofs.DecidedWalks.{within}
-use Rattle.routing_laws.proofs.DecidedStores.{decided_reached, sound_or_cause, first_cause}
+use Rattle.routing_walks.specs.CutFaults.{IsSound}
+use Rattle.routing_walks.specs.Regions.{IsReachedFrom}
+use Rattle.routing_walks.proofs.LiveLemmas.{IsSome-and}
+use Rattle.routing_walks.specs.Deciding.{Decided}
+use Rattle.routing_walks.specs.Shown.{HasCause}
+use Rattle.routing_walks.proofs.DecidedLemmas.{decided_as, decided_both, decided_either, decided_not, decided_number, decided_some, decided_in, decided_below}
+use Rattle.routing_walks.proofs.DecidedWalks.{within}
+use Rattle.routing_walks.proofs.DecidedStores.{decided_reached, sound_or_cause, first_cause}
 use Rattle.store_logic.specs.Terms.{outside}
 use Rattle.store_exec.specs.declared.cause.Cause.{Cause}
 use Rattle.store_exec.specs.declared.cause.Cause.TheVariants as cause

@@ -9,16 +9,16 @@ use Rattle.store_core.specs.declared.value.Value.{Value}
 use Rattle.store_core.specs.declared.value.Value.TheVariants as value
 use Rattle.store_core.specs.Tables.{TypeEntry, VarEntry}
 use Rattle.store_core.specs.Stores.{StoreMap, IsLive}
-use Rattle.routing_expr.specs.Walks.{DataAndPointers, IsOfType, IsOfVariant}
-use Rattle.routing_expr.specs.Regions.{store_on}
-use Rattle.routing_expr.specs.Reaching.{IsUnreached}
-use Rattle.routing_expr.proofs.WalkLemmas.{Walk-IsVariant}
-use Rattle.routing_expr.proofs.LiveLemmas.{IsOfType-live}
-use Rattle.routing_laws.specs.Deciding.{Decided}
-use Rattle.routing_laws.proofs.DecidedLemmas.{decided_as, decided_both, decided_either, decided_not, holds_from, decided_truth, decided_some, decided_in}
-use Rattle.routing_laws.proofs.DecidedLemmas.{decided_one_of}
-use Rattle.routing_laws.proofs.DecidedWalks.{decided_cell, listed, decided_same_cell, decided_live, decided_of_type, decided_walk}
-use Rattle.routing_laws.proofs.DecidedStores.{decided_reached, part_of}
+use Rattle.routing_walks.specs.Walks.{DataAndPointers, IsOfType, IsOfVariant}
+use Rattle.routing_walks.specs.Regions.{store_on}
+use Rattle.routing_walks.specs.Reaching.{IsUnreached}
+use Rattle.routing_walks.proofs.WalkLemmas.{Walk-IsVariant}
+use Rattle.routing_walks.proofs.LiveLemmas.{IsOfType-live}
+use Rattle.routing_walks.specs.Deciding.{Decided}
+use Rattle.routing_walks.proofs.DecidedLemmas.{decided_as, decided_both, decided_either, decided_not, holds_from, decided_truth, decided_some, decided_in}
+use Rattle.routing_walks.proofs.DecidedLemmas.{decided_one_of}
+use Rattle.routing_walks.proofs.DecidedWalks.{decided_cell, listed, decided_same_cell, decided_live, decided_of_type, decided_walk}
+use Rattle.routing_walks.proofs.DecidedStores.{decided_reached, part_of}
 use Rattle.store_logic.specs.declared.assertion.Assertion.{Assertion}
 use Rattle.store_logic.specs.declared.region.Region.{Region}
 use Rattle.store_logic.specs.declared.region.Region.TheVariants as region

@@ -4,7 +4,7 @@ ghost use Rattle.std.specs.Prelude.{◌<◌, ℕ, List, [], Option};
 ghost use Rattle.std.specs.List.{AllByRecursion};
 ghost use Rattle.store_core.specs.Tables.{TypeEntry, VarEntry};
 ghost use Rattle.store_core.specs.Stores.{StoreMap, Fits};
-ghost use Rattle.routing_laws.specs.Deciding.{Decided};
+ghost use Rattle.routing_walks.specs.Deciding.{Decided};
 ghost use Rattle.store_logic.specs.declared.assertion.Assertion.{Assertion};
 ghost use Rattle.store_logic.specs.declared.region.Region.{Region};
 ghost use Rattle.store_logic.specs.Terms.{Environment};

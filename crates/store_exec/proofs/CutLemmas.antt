@@ -7,12 +7,12 @@ use Rattle.store_core.specs.declared.ids.VarId.{VarId}
 use Rattle.store_core.specs.declared.ids.CellId.{CellId}
 use Rattle.store_core.specs.Tables.{TypeEntry, VarEntry}
 use Rattle.store_core.specs.Stores.{StoreMap, Fits}
-use Rattle.routing_expr.specs.Regions.{IsPart}
-use Rattle.routing_expr.specs.declared.fault.CutFault.{CutFault}
-use Rattle.routing_expr.specs.declared.fault.CutFault.TheVariants as fault
-use Rattle.routing_expr.specs.CutFaults.{HasDanglingReference, HasShared, HasLeaked, HasWrongField, IsFirstCutFault, IsSound}
-use Rattle.routing_laws.specs.Shown.{at_reference, at_shared, at_leak, at_field}
-use Rattle.routing_laws.proofs.DecidedStores.{no_cause}
+use Rattle.routing_walks.specs.Regions.{IsPart}
+use Rattle.routing_walks.specs.declared.fault.CutFault.{CutFault}
+use Rattle.routing_walks.specs.declared.fault.CutFault.TheVariants as fault
+use Rattle.routing_walks.specs.CutFaults.{HasDanglingReference, HasShared, HasLeaked, HasWrongField, IsFirstCutFault, IsSound}
+use Rattle.routing_walks.specs.Shown.{at_reference, at_shared, at_leak, at_field}
+use Rattle.routing_walks.proofs.DecidedStores.{no_cause}
 use Rattle.store_exec.specs.declared.cause.Cause.{Cause}
 use Rattle.store_exec.specs.declared.cause.Cause.TheVariants as cause
 use Rattle.store_exec.specs.declared.triple.Cut.{Cut}

@@ -18,8 +18,8 @@ use Rattle.store_core.specs.Stores.{remove_cell}
 use Rattle.store_laws.specs.Changed.{next_cell}
 use Rattle.store_laws.proofs.CellLemmas.{cell_cases, put_here, put_elsewhere, set_nothing, set_here, set_elsewhere, gone_here, gone_elsewhere}
 use Rattle.store_laws.proofs.ChangeLemmas.{IsRemoved-remove_cell}
-use Rattle.routing_laws.specs.Pairing.{IsPair, PairsReference, PairsValue, PairsSlot, Pairwise, PairsCell, PairsEntry, ArePaired}
-use Rattle.routing_laws.proofs.DecidedLemmas.{in_first, in_rest, in_cases}
+use Rattle.routing_walks.specs.Pairing.{IsPair, PairsReference, PairsValue, PairsSlot, Pairwise, PairsCell, PairsEntry, ArePaired}
+use Rattle.routing_walks.proofs.DecidedLemmas.{in_first, in_rest, in_cases}
 use Rattle.store_logic.proofs.RenamingLemmas.{Pairwise-each}
 use Rattle.store_exec.specs.Renamed.{AreRenamed, with_new, StayRenamed}
 

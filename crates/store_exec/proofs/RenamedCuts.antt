@@ -6,16 +6,16 @@ use Rattle.store_core.specs.declared.value.Value.{Value}
 use Rattle.store_core.specs.declared.value.Value.TheVariants as value
 use Rattle.store_core.specs.Tables.{TypeEntry, VarEntry}
 use Rattle.store_core.specs.Stores.{StoreMap, IsAbove, field_value, var_value}
-use Rattle.routing_expr.specs.declared.fault.Place.{Place}
-use Rattle.routing_expr.specs.declared.fault.Place.TheVariants as place
-use Rattle.routing_expr.specs.WellFormed.{IsDanglingReference}
-use Rattle.routing_expr.specs.CutFaults.{HasDanglingReference, HasShared, HasLeaked, HasWrongField}
-use Rattle.routing_expr.specs.Regions.{IsReachedFrom}
-use Rattle.routing_expr.proofs.LiveLemmas.{IsLive-field_value}
-use Rattle.routing_expr.proofs.FittingLemmas.{IsSomeAnd-at}
-use Rattle.routing_laws.specs.Pairing.{PairsReference, PairsValue, PairsSlot, ArePaired}
-use Rattle.routing_laws.proofs.PairLemmas.{turn, ArePaired-turned, reference_to, var_paired}
-use Rattle.routing_laws.proofs.PairFaults.{reference_dangles_to, shared_to, leaked_to, wrong_to, well_formed_to}
+use Rattle.store_core.proofs.FittingLemmas.{IsSomeAnd-at}
+use Rattle.routing_walks.specs.declared.fault.Place.{Place}
+use Rattle.routing_walks.specs.declared.fault.Place.TheVariants as place
+use Rattle.routing_walks.specs.WellFormed.{IsDanglingReference}
+use Rattle.routing_walks.specs.CutFaults.{HasDanglingReference, HasShared, HasLeaked, HasWrongField}
+use Rattle.routing_walks.specs.Regions.{IsReachedFrom}
+use Rattle.routing_walks.proofs.LiveLemmas.{IsLive-field_value}
+use Rattle.routing_walks.specs.Pairing.{PairsReference, PairsValue, PairsSlot, ArePaired}
+use Rattle.routing_walks.proofs.PairLemmas.{turn, ArePaired-turned, reference_to, var_paired}
+use Rattle.routing_walks.proofs.PairFaults.{reference_dangles_to, shared_to, leaked_to, wrong_to, well_formed_to}
 use Rattle.store_logic.specs.Terms.{outside}
 use Rattle.store_logic.specs.Renamed.{PairsStore}
 use Rattle.store_logic.proofs.RenamingLemmas.{PairsStore-from_ArePaired, reached_to}

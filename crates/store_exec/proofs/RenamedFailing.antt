@@ -3,9 +3,9 @@ use Rattle.std.proofs.Common.{inl, inr, ℕ, List, [], ◌∷◌, map, sym, subs
 use Rattle.store_core.specs.declared.ids.CellId.{CellId}
 use Rattle.store_core.specs.Tables.{TypeEntry, VarEntry}
 use Rattle.store_core.specs.Stores.{StoreMap}
-use Rattle.routing_laws.specs.Pairing.{IsPair, ArePaired}
-use Rattle.routing_laws.proofs.DecidedLemmas.{in_none, in_first, in_rest, in_cases}
-use Rattle.routing_laws.proofs.PairLemmas.{turn, ArePaired-turned}
+use Rattle.routing_walks.specs.Pairing.{IsPair, ArePaired}
+use Rattle.routing_walks.proofs.DecidedLemmas.{in_none, in_first, in_rest, in_cases}
+use Rattle.routing_walks.proofs.PairLemmas.{turn, ArePaired-turned}
 use Rattle.store_exec.specs.declared.cause.Cause.{Cause}
 use Rattle.store_exec.specs.declared.outcome.Outcome.TheVariants as outcome
 use Rattle.store_exec.specs.declared.triple.Triple.{Triple}

@@ -11,8 +11,8 @@ use Rattle.store_core.specs.declared.ids.CellId.{CellId}
 use Rattle.store_core.specs.declared.value.Value.{Value}
 use Rattle.store_core.specs.declared.value.Value.TheVariants as value
 use Rattle.store_core.specs.Stores.{StoreMap, CellEntry, cell_of, field_value, var_value}
-use Rattle.routing_laws.specs.Pairing.{PairsReference, PairsValue, PairsSlot, PairsEntry, ArePaired}
-use Rattle.routing_laws.proofs.PairLemmas.{field_paired, var_paired}
+use Rattle.routing_walks.specs.Pairing.{PairsReference, PairsValue, PairsSlot, PairsEntry, ArePaired}
+use Rattle.routing_walks.proofs.PairLemmas.{field_paired, var_paired}
 use Rattle.store_logic.specs.declared.path.Path.{Path}
 use Rattle.store_logic.specs.declared.path.Operand.{Operand}
 use Rattle.store_logic.specs.declared.path.Operand.TheVariants as operand

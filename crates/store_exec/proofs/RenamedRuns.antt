@@ -3,7 +3,7 @@ use Rattle.std.proofs.Common.{◌≡◌, inl, inr, ℕ, Bool, true, false, List,
 use Rattle.store_core.specs.declared.ids.CellId.{CellId}
 use Rattle.store_core.specs.Tables.{TypeEntry}
 use Rattle.store_core.specs.Stores.{StoreMap}
-use Rattle.routing_laws.specs.Pairing.{IsPair}
+use Rattle.routing_walks.specs.Pairing.{IsPair}
 use Rattle.store_logic.specs.declared.act.Act.{Act}
 use Rattle.store_logic.specs.declared.cond.Cond.{Cond}
 use Rattle.store_exec.specs.declared.cause.Cause.{Cause}

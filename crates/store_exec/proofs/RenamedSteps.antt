@@ -8,9 +8,9 @@ use Rattle.store_core.specs.declared.value.Value.TheVariants as value
 use Rattle.store_core.specs.Tables.{TypeEntry}
 use Rattle.store_core.specs.Stores.{StoreMap, CellEntry, cell_of, field_value, set_field, set_var, remove_cell}
 use Rattle.store_laws.specs.Changed.{next_cell}
-use Rattle.routing_laws.specs.Pairing.{IsPair, PairsValue, PairsSlot, PairsEntry, ArePaired}
-use Rattle.routing_laws.proofs.DecidedLemmas.{in_first}
-use Rattle.routing_laws.proofs.PairLemmas.{field_paired}
+use Rattle.routing_walks.specs.Pairing.{IsPair, PairsValue, PairsSlot, PairsEntry, ArePaired}
+use Rattle.routing_walks.proofs.DecidedLemmas.{in_first}
+use Rattle.routing_walks.proofs.PairLemmas.{field_paired}
 use Rattle.store_logic.specs.declared.act.Rhs.{Rhs}
 use Rattle.store_logic.specs.declared.act.Rhs.TheVariants as rhs
 use Rattle.store_logic.specs.declared.act.Act.{Act}

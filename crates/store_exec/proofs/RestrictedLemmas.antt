@@ -22,17 +22,17 @@ use Rattle.store_core.specs.CellLists.{AreRising}
 use Rattle.store_core.specs.Tables.{TypeEntry, VarEntry, FieldEntry, field_at}
 use Rattle.store_core.specs.Stores.{StoreMap, CellEntry, cell_of, field_value, var_value, NamesType, FieldFits, VarFits, CellFits, VarsFit, Fits}
 use Rattle.store_laws.proofs.KeepingLemmas.{CellFits-kept, VarsFit-kept, slots-any, all-any}
-use Rattle.routing_expr.specs.declared.fault.Place.{Place}
-use Rattle.routing_expr.specs.declared.fault.Place.TheVariants as place
-use Rattle.routing_expr.specs.Walks.{DataAlone, IsParent, Chain, stay, go}
-use Rattle.routing_expr.specs.Destinations.{EndsKind, Dest, IsOnlyDestination}
-use Rattle.routing_expr.specs.WellFormed.{value_at, Names, IsInTree, NamesDead, HoldsDead, IsDanglingReference}
-use Rattle.routing_expr.specs.WellFormed.{IsWellFormed}
-use Rattle.routing_expr.specs.CutFaults.{IsSound}
-use Rattle.routing_expr.proofs.FittingLemmas.{IfSome-from, IfSome-at, IsSomeAnd-at, slot_at_value}
-use Rattle.routing_expr.proofs.AloneLemmas.{Walk-same_cells}
-use Rattle.routing_laws.specs.Shown.{HasFault, dangling, shared, leaked, wrong, HasCause, at_reference, at_shared, at_leak, at_field}
-use Rattle.routing_laws.proofs.DecidedStores.{well_formed_or_fault, sound_or_cause, no_cause}
+use Rattle.store_core.proofs.FittingLemmas.{IfSome-from, IfSome-at, IsSomeAnd-at, slot_at_value}
+use Rattle.routing_walks.specs.declared.fault.Place.{Place}
+use Rattle.routing_walks.specs.declared.fault.Place.TheVariants as place
+use Rattle.routing_walks.specs.Walks.{DataAlone, IsParent, Chain, stay, go}
+use Rattle.routing_walks.specs.Destinations.{EndsKind, Dest, IsOnlyDestination}
+use Rattle.routing_walks.specs.WellFormed.{value_at, Names, IsInTree, NamesDead, HoldsDead, IsDanglingReference}
+use Rattle.routing_walks.specs.WellFormed.{IsWellFormed}
+use Rattle.routing_walks.specs.CutFaults.{IsSound}
+use Rattle.routing_walks.proofs.AloneLemmas.{Walk-same_cells}
+use Rattle.routing_walks.specs.Shown.{HasFault, dangling, shared, leaked, wrong, HasCause, at_reference, at_shared, at_leak, at_field}
+use Rattle.routing_walks.proofs.DecidedStores.{well_formed_or_fault, sound_or_cause, no_cause}
 use Rattle.store_exec.specs.declared.cause.Cause.TheVariants as cause
 use Rattle.store_exec.specs.declared.triple.Cut.{Cut}
 use Rattle.store_exec.specs.Cuts.{AtCut}

@@ -7,8 +7,8 @@ use Rattle.store_core.specs.declared.kind.VarKind.TheVariants as var
 use Rattle.store_core.specs.declared.value.Value.TheVariants as value
 use Rattle.store_core.specs.Tables.{TypeEntry, VarEntry, var_at}
 use Rattle.store_core.specs.Stores.{StoreMap, var_value}
-use Rattle.routing_expr.specs.CutFaults.{HasDanglingReference, HasShared, HasLeaked, HasWrongField}
-use Rattle.routing_expr.specs.Regions.{IsReachedFrom}
+use Rattle.routing_walks.specs.CutFaults.{HasDanglingReference, HasShared, HasLeaked, HasWrongField}
+use Rattle.routing_walks.specs.Regions.{IsReachedFrom}
 use Rattle.store_logic.specs.Terms.{outside}
 use Rattle.store_logic.specs.Satisfaction.{Sat}
 use Rattle.store_exec.specs.declared.cause.Cause.{Cause}

@@ -2,7 +2,7 @@
 use Rattle.std.specs.Prelude.{◌≡◌, ℕ, zero, suc, ◌+◌, ◌<◌, List, ◌∷◌, Result, Ok, Err}
 use Rattle.store_core.specs.declared.ids.CellId.{CellId}
 use Rattle.store_core.specs.Stores.{StoreMap}
-use Rattle.routing_laws.specs.Pairing.{IsPair, ArePaired}
+use Rattle.routing_walks.specs.Pairing.{IsPair, ArePaired}
 use Rattle.store_exec.specs.declared.cause.Cause.{Cause}
 use Rattle.store_exec.specs.declared.outcome.Outcome.{Outcome}
 use Rattle.store_exec.specs.declared.outcome.Outcome.TheVariants as outcome

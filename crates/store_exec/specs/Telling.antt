@@ -4,8 +4,8 @@ use Rattle.store_core.specs.declared.ids.VarId.{VarId}
 use Rattle.store_core.specs.declared.ids.CellId.{CellId}
 use Rattle.store_core.specs.Tables.{VarEntry}
 use Rattle.store_core.specs.Stores.{StoreMap}
-use Rattle.routing_expr.specs.declared.fault.CutFault.{CutFault}
-use Rattle.routing_expr.specs.declared.fault.CutFault.TheVariants as fault
+use Rattle.routing_walks.specs.declared.fault.CutFault.{CutFault}
+use Rattle.routing_walks.specs.declared.fault.CutFault.TheVariants as fault
 use Rattle.store_exec.specs.declared.cause.Cause.{Cause}
 use Rattle.store_exec.specs.declared.cause.Cause.TheVariants as cause
 use Rattle.store_exec.specs.Cuts.{PointsTo}

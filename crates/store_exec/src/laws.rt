@@ -3,7 +3,7 @@
 ghost use Rattle.std.specs.Prelude.{◌≡◌, ◌↔◌, ◌+◌, ◌≤◌, ℕ, Result, Ok, Option, None, List};
 ghost use Rattle.store_core.specs.Tables.{TypeEntry, VarEntry};
 ghost use Rattle.store_core.specs.Stores.{StoreMap, Fits, IsFresh};
-ghost use Rattle.routing_expr.specs.WellFormed.{IsWellFormed};
+ghost use Rattle.routing_walks.specs.WellFormed.{IsWellFormed};
 ghost use Rattle.store_logic.specs.declared.act.Act.{Act};
 ghost use Rattle.store_logic.specs.FitsCode.{ActFits};
 ghost use Rattle.store_logic.specs.declared.cond.Cond.{Cond};

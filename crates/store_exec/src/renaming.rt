@@ -4,7 +4,7 @@ ghost use Rattle.std.specs.Prelude.{◌↔◌, ℕ, List, Option, Result};
 ghost use Rattle.store_core.specs.declared.ids.CellId.{CellId};
 ghost use Rattle.store_core.specs.Tables.{TypeEntry, VarEntry};
 ghost use Rattle.store_core.specs.Stores.{StoreMap, IsAbove};
-ghost use Rattle.routing_laws.specs.Pairing.{IsPair, ArePaired};
+ghost use Rattle.routing_walks.specs.Pairing.{IsPair, ArePaired};
 ghost use Rattle.store_logic.specs.declared.act.Act.{Act};
 ghost use Rattle.store_exec.specs.declared.cause.Cause.{Cause};
 ghost use Rattle.store_exec.specs.declared.code.Code.{Code};

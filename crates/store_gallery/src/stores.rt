@@ -4,7 +4,7 @@ ghost use Rattle.std.specs.Prelude.{IfOk, IfSome};
 ghost use Rattle.std.specs.List.{AllByRecursion};
 ghost use Rattle.store_core.specs.Stores.{Fits};
 ghost use Rattle.store_core.specs.Tables.{KnowsVariant};
-ghost use Rattle.routing_expr.specs.WellFormed.{IsWellFormed};
+ghost use Rattle.routing_walks.specs.WellFormed.{IsWellFormed};
 
 use crate::tables::{types_of, vars_of};
 use anyhow::{Result, bail};

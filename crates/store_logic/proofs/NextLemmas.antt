@@ -6,11 +6,11 @@ use Rattle.store_core.specs.declared.ids.CellId.{CellId}
 use Rattle.store_core.specs.declared.value.Value.{Value}
 use Rattle.store_core.specs.Tables.{TypeEntry, VarEntry}
 use Rattle.store_core.specs.Stores.{StoreMap}
-use Rattle.routing_expr.specs.Walks.{DataAndPointers, IsParent, Chain, stay, go}
-use Rattle.routing_expr.specs.Searches.{Lists}
-use Rattle.routing_expr.specs.Regions.{store_on, IsReachedFrom}
-use Rattle.routing_expr.specs.Reaching.{IsUnreached}
-use Rattle.routing_expr.proofs.AloneLemmas.{Walk-same_cells}
+use Rattle.routing_walks.specs.Walks.{DataAndPointers, IsParent, Chain, stay, go}
+use Rattle.routing_walks.specs.Sets.{Lists}
+use Rattle.routing_walks.specs.Regions.{store_on, IsReachedFrom}
+use Rattle.routing_walks.specs.Reaching.{IsUnreached}
+use Rattle.routing_walks.proofs.AloneLemmas.{Walk-same_cells}
 use Rattle.store_logic.specs.declared.assertion.Assertion.{Assertion}
 use Rattle.store_logic.specs.declared.pred.PredDef.{PredDef}
 use Rattle.store_logic.specs.declared.region.Region.{Region}

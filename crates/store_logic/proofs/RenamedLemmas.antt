@@ -8,17 +8,17 @@ use Rattle.store_core.specs.declared.value.Value.{Value}
 use Rattle.store_core.specs.declared.value.Value.TheVariants as value
 use Rattle.store_core.specs.Tables.{TypeEntry, VarEntry}
 use Rattle.store_core.specs.Stores.{StoreMap, cell_of}
-use Rattle.routing_expr.specs.Walks.{DataAndPointers, IsOfType, Walk}
-use Rattle.routing_expr.specs.Searches.{Lists}
-use Rattle.routing_expr.specs.Regions.{store_on, IsReachedFrom}
-use Rattle.routing_expr.specs.Reaching.{IsUnreached}
-use Rattle.routing_expr.proofs.AloneLemmas.{Walk-same_cells}
-use Rattle.routing_expr.proofs.LiveLemmas.{IsSome-and}
-use Rattle.routing_laws.specs.Pairing.{Pairwise}
-use Rattle.routing_laws.proofs.DecidedLemmas.{decided_as, decided_both, decided_not, decided_there}
-use Rattle.routing_laws.proofs.DecidedWalks.{listed}
-use Rattle.routing_laws.proofs.DecidedStores.{decided_reached, part_of}
-use Rattle.routing_laws.proofs.PairLemmas.{turn, JoinAlike-paired}
+use Rattle.routing_walks.specs.Walks.{DataAndPointers, IsOfType, Walk}
+use Rattle.routing_walks.specs.Sets.{Lists}
+use Rattle.routing_walks.specs.Regions.{store_on, IsReachedFrom}
+use Rattle.routing_walks.specs.Reaching.{IsUnreached}
+use Rattle.routing_walks.proofs.AloneLemmas.{Walk-same_cells}
+use Rattle.routing_walks.proofs.LiveLemmas.{IsSome-and}
+use Rattle.routing_walks.specs.Pairing.{Pairwise}
+use Rattle.routing_walks.proofs.DecidedLemmas.{decided_as, decided_both, decided_not, decided_there}
+use Rattle.routing_walks.proofs.DecidedWalks.{listed}
+use Rattle.routing_walks.proofs.DecidedStores.{decided_reached, part_of}
+use Rattle.routing_walks.proofs.PairLemmas.{turn, JoinAlike-paired}
 use Rattle.store_logic.specs.declared.assertion.Assertion.{Assertion}
 use Rattle.store_logic.specs.declared.pred.PredDef.{PredDef}
 use Rattle.store_logic.specs.declared.region.Region.{Region}

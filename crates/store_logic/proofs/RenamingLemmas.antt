@@ -11,14 +11,14 @@ use Rattle.store_core.specs.declared.value.Value.{Value}
 use Rattle.store_core.specs.declared.value.Value.TheVariants as value
 use Rattle.store_core.specs.Tables.{TypeEntry, VarEntry}
 use Rattle.store_core.specs.Stores.{StoreMap, CellEntry, IsLive, cell_of, field_value}
-use Rattle.routing_expr.specs.Walks.{IsOfType, IsOfVariant, IsParent, Chain, stay, go}
-use Rattle.routing_expr.specs.Regions.{store_on, IsReachedFrom}
-use Rattle.routing_laws.specs.Deciding.{Decided}
-use Rattle.routing_laws.specs.Pairing.{PairsReference, PairsValue, PairsSlot, Pairwise, PairsEntry, ArePaired}
-use Rattle.routing_laws.proofs.DecidedLemmas.{decided_there, decided_in, in_none}
-use Rattle.routing_laws.proofs.DecidedWalks.{decided_same_cell, listed}
-use Rattle.routing_laws.proofs.PairLemmas.{turn, ArePaired-turned, value_turned, reference_to, field_paired, live_to, type_to}
-use Rattle.routing_laws.proofs.RegionLemmas.{store_on-IsOn, live_on}
+use Rattle.routing_walks.specs.Walks.{IsOfType, IsOfVariant, IsParent, Chain, stay, go}
+use Rattle.routing_walks.specs.Regions.{store_on, IsReachedFrom}
+use Rattle.routing_walks.specs.Deciding.{Decided}
+use Rattle.routing_walks.specs.Pairing.{PairsReference, PairsValue, PairsSlot, Pairwise, PairsEntry, ArePaired}
+use Rattle.routing_walks.proofs.DecidedLemmas.{decided_there, decided_in, in_none}
+use Rattle.routing_walks.proofs.DecidedWalks.{decided_same_cell, listed}
+use Rattle.routing_walks.proofs.PairLemmas.{turn, ArePaired-turned, value_turned, reference_to, field_paired, live_to, type_to}
+use Rattle.routing_walks.proofs.RegionLemmas.{store_on-IsOn, live_on}
 use Rattle.store_logic.specs.declared.term.Base.{Base}
 use Rattle.store_logic.specs.declared.term.Base.TheVariants as base
 use Rattle.store_logic.specs.declared.term.Term.{Term}

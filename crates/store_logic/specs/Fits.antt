@@ -11,8 +11,8 @@ use Rattle.store_core.specs.declared.kind.Route.{Route}
 use Rattle.store_core.specs.declared.kind.Route.TheOpen.{Route-F}
 use Rattle.store_core.specs.declared.kind.Route.TheFolds.{rec-Route}
 use Rattle.store_core.specs.Tables.{TypeEntry, VarEntry, KnowsType, KnowsVariant, KnowsVarKind, field_at, var_at}
-use Rattle.routing_expr.specs.Walks.{DataAndPointers, IsFollowed, IsNamed}
-use Rattle.routing_expr.specs.WellFormed.{IsDataVar}
+use Rattle.routing_walks.specs.Walks.{DataAndPointers, IsFollowed, IsNamed}
+use Rattle.routing_walks.specs.WellFormed.{IsDataVar}
 use Rattle.store_logic.specs.declared.term.Base.{Base}
 use Rattle.store_logic.specs.declared.term.Term.{Term}
 use Rattle.store_logic.specs.declared.assertion.Assertion.{Assertion}

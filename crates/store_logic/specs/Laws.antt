@@ -7,7 +7,7 @@ use Rattle.store_core.specs.declared.kind.Route.{Route}
 use Rattle.store_core.specs.declared.value.Value.TheVariants as value
 use Rattle.store_core.specs.Tables.{TypeEntry}
 use Rattle.store_core.specs.Stores.{StoreMap, IsLive}
-use Rattle.routing_expr.specs.Walks.{DataAndPointers, Walk, IsOfType, IsOfVariant}
+use Rattle.routing_walks.specs.Walks.{DataAndPointers, Walk, IsOfType, IsOfVariant}
 use Rattle.store_logic.specs.declared.term.Base.{Base}
 use Rattle.store_logic.specs.declared.term.Term.{Term}
 use Rattle.store_logic.specs.declared.arg.Arg.{Arg}

@@ -5,7 +5,7 @@ use Rattle.store_core.specs.declared.ids.CellId.{CellId}
 use Rattle.store_core.specs.declared.value.Value.{Value}
 use Rattle.store_core.specs.declared.value.Value.TheVariants as value
 use Rattle.store_core.specs.Stores.{StoreMap, IsLive}
-use Rattle.routing_laws.specs.Pairing.{PairsReference, Pairwise, ArePaired}
+use Rattle.routing_walks.specs.Pairing.{PairsReference, Pairwise, ArePaired}
 use Rattle.store_logic.specs.Terms.{Environment}
 
 -- each live cell of the one set is paired with a cell of the other. Dead members need no pair

@@ -10,8 +10,8 @@ use Rattle.store_core.specs.declared.value.Value.TheVariants as value
 use Rattle.store_core.specs.CellLists.{AreRising}
 use Rattle.store_core.specs.Tables.{TypeEntry, VarEntry}
 use Rattle.store_core.specs.Stores.{StoreMap, IsLive}
-use Rattle.routing_expr.specs.Walks.{DataAndPointers, Walk, IsOfType, IsOfVariant}
-use Rattle.routing_expr.specs.Regions.{store_on}
+use Rattle.routing_walks.specs.Walks.{DataAndPointers, Walk, IsOfType, IsOfVariant}
+use Rattle.routing_walks.specs.Regions.{store_on}
 use Rattle.store_logic.specs.declared.assertion.Assertion.{Assertion}
 use Rattle.store_logic.specs.declared.assertion.Assertion.TheOpen.{Assertion-F}
 use Rattle.store_logic.specs.declared.assertion.Assertion.TheFolds.{rec-Assertion}

@@ -4,7 +4,7 @@ ghost use Rattle.std.specs.Prelude.{◌↔◌, ℕ, List};
 ghost use Rattle.store_core.specs.declared.ids.CellId.{CellId};
 ghost use Rattle.store_core.specs.Tables.{TypeEntry, VarEntry};
 ghost use Rattle.store_core.specs.Stores.{StoreMap};
-ghost use Rattle.routing_expr.specs.Regions.{store_on};
+ghost use Rattle.routing_walks.specs.Regions.{store_on};
 ghost use Rattle.store_logic.specs.declared.assertion.Assertion.{Assertion};
 ghost use Rattle.store_logic.specs.declared.pred.PredDef.{PredDef};
 ghost use Rattle.store_logic.specs.declared.region.Region.{Region};

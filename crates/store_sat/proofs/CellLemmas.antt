@@ -4,9 +4,9 @@ use Rattle.std.specs.FinMap.{keys}
 use Rattle.store_core.specs.declared.ids.TypeId.{TypeId}
 use Rattle.store_core.specs.declared.ids.CellId.{CellId}
 use Rattle.store_core.specs.Stores.{StoreMap, cell_of}
-use Rattle.routing_expr.specs.Walks.{IsOfType}
-use Rattle.routing_expr.proofs.KeyLemmas.{key_of_live}
-use Rattle.routing_expr.proofs.LiveLemmas.{IsSome-and}
+use Rattle.routing_walks.specs.Walks.{IsOfType}
+use Rattle.routing_walks.proofs.KeyLemmas.{key_of_live}
+use Rattle.routing_walks.proofs.LiveLemmas.{IsSome-and}
 use Rattle.store_sat.specs.Tasks.{numbered, SomeCell, EachCell}
 
 module _ (s : StoreMap) (ty : TypeId) (Is : CellId → Type 0) where

@@ -9,7 +9,7 @@ use Rattle.store_core.specs.declared.ids.VarId.{VarId}
 use Rattle.store_core.specs.Tables.{VarEntry, place_of, var_named}
 use Rattle.store_core.proofs.Names.{position_none-from}
 use Rattle.store_core.proofs.Growing.{AllByRecursion-push, AllByRecursion-weaker}
-use Rattle.routing_expr.specs.WellFormed.{IsDataVar}
+use Rattle.routing_walks.specs.WellFormed.{IsDataVar}
 
 refuted : (b : Bool) → (b ≡ true → ⊥) → b ≡ false
 refuted true never = absurd (never refl)

@@ -9,7 +9,7 @@ use Rattle.store_core.specs.declared.ids.CellId.{CellId}
 use Rattle.store_core.specs.declared.value.Value.TheVariants as value
 use Rattle.store_core.specs.Tables.{TypeEntry}
 use Rattle.store_core.specs.Stores.{StoreMap}
-use Rattle.routing_expr.specs.Walks.{IsOfType}
+use Rattle.routing_walks.specs.Walks.{IsOfType}
 use Rattle.store_logic.specs.declared.assertion.Assertion.{Assertion}
 use Rattle.store_logic.proofs.SameLemmas.{itself}
 use Rattle.store_sat.specs.declared.task.Join.{Join}

@@ -9,8 +9,8 @@ use Rattle.store_core.specs.declared.ids.CellId.{CellId}
 use Rattle.store_core.specs.Tables.{TypeEntry, VarEntry, IsVarTable}
 use Rattle.store_core.specs.Stores.{StoreMap, var_value}
 use Rattle.store_core.proofs.Bodies.{AllByRecursion-at}
-use Rattle.routing_expr.specs.WellFormed.{IsDataVar}
-use Rattle.routing_expr.specs.Regions.{IsReachedFrom, IsPart}
+use Rattle.routing_walks.specs.WellFormed.{IsDataVar}
+use Rattle.routing_walks.specs.Regions.{IsReachedFrom, IsPart}
 use Rattle.routing_expr.proofs.ReachLemmas.{known_within}
 use Rattle.store_logic.specs.Fits.{IsKnownDataVar}
 use Rattle.store_sat.specs.RootTables.{AreDataVars, IsCovered}

@@ -8,9 +8,9 @@ use Rattle.store_core.specs.declared.ids.CellId.{CellId}
 use Rattle.store_core.specs.CellLists.{AreRising}
 use Rattle.store_core.specs.Stores.{StoreMap, cell_of}
 use Rattle.store_core.proofs.Growing.{AllByRecursion-push}
-use Rattle.routing_expr.specs.Walks.{IsOfType}
-use Rattle.routing_expr.proofs.KeyLemmas.{key_of_live, keys-rise}
-use Rattle.routing_expr.proofs.LiveLemmas.{IsSome-and}
+use Rattle.routing_walks.specs.Walks.{IsOfType}
+use Rattle.routing_walks.proofs.KeyLemmas.{key_of_live, keys-rise}
+use Rattle.routing_walks.proofs.LiveLemmas.{IsSome-and}
 use Rattle.store_logic.specs.Satisfaction.{IsSetOf}
 use Rattle.store_sat.specs.Tasks.{numbered, SomeSet, EachSet}
 use Rattle.store_sat.specs.Steps.{StayRising}

@@ -4,7 +4,7 @@ use Rattle.std.specs.List.{AllByRecursion}
 use Rattle.store_core.specs.declared.ids.VarId.{VarId}
 use Rattle.store_core.specs.Tables.{VarEntry}
 use Rattle.store_core.specs.Stores.{StoreMap, var_value}
-use Rattle.routing_expr.specs.WellFormed.{IsDataVar}
+use Rattle.routing_walks.specs.WellFormed.{IsDataVar}
 
 -- so many variables, each a data variable
 pub record AreDataVars (count : ℕ) (vars : List VarEntry) : Type 0 where

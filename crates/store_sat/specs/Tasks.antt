@@ -8,7 +8,7 @@ use Rattle.store_core.specs.declared.value.Value.{Value}
 use Rattle.store_core.specs.declared.value.Value.TheVariants as value
 use Rattle.store_core.specs.Tables.{TypeEntry}
 use Rattle.store_core.specs.Stores.{StoreMap}
-use Rattle.routing_expr.specs.Walks.{IsOfType}
+use Rattle.routing_walks.specs.Walks.{IsOfType}
 use Rattle.store_logic.specs.declared.assertion.Assertion.{Assertion}
 use Rattle.store_logic.specs.Terms.{Environment}
 use Rattle.store_logic.specs.Satisfaction.{SatAll}

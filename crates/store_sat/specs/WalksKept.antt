@@ -2,8 +2,9 @@
 use Rattle.std.specs.Prelude.{List}
 use Rattle.store_core.specs.Tables.{TypeEntry}
 use Rattle.store_core.specs.Stores.{StoreMap}
-use Rattle.routing_expr.specs.Walks.{DataAndPointers, Walk}
-use Rattle.routing_expr.specs.Searches.{Ground, Lists}
+use Rattle.routing_walks.specs.Walks.{DataAndPointers, Walk}
+use Rattle.routing_walks.specs.Sets.{Lists}
+use Rattle.routing_expr.specs.Searches.{Ground}
 use Rattle.store_sat.specs.declared.walks.Kept.{Kept}
 
 -- the walks of assertions follow data fields and pointer fields

@@ -4,7 +4,7 @@ ghost use Rattle.std.specs.Prelude.{◌≡◌, ◌↔◌, IfOk, IsTrue, IsSomeAn
 ghost use Rattle.store_core.specs.declared.ids.CellId.{CellId};
 ghost use Rattle.store_core.specs.CellLists.{AreRising};
 ghost use Rattle.store_core.specs.Stores.{IsLive};
-ghost use Rattle.routing_expr.specs.Walks.{Walk, IsOfType, IsOfVariant};
+ghost use Rattle.routing_walks.specs.Walks.{Walk, IsOfType, IsOfVariant};
 ghost use Rattle.store_logic.specs.Terms.{cell_at, set_at};
 ghost use Rattle.store_sat.specs.Tasks.{around};
 

@@ -3,7 +3,7 @@
 ghost use Rattle.std.specs.Prelude.{◌≤◌, IfOk, List};
 ghost use Rattle.std.specs.List.{AllByRecursion};
 ghost use Rattle.store_core.specs.Tables.{VarEntry, IsVarTable};
-ghost use Rattle.routing_expr.specs.Regions.{IsPart, IsRest};
+ghost use Rattle.routing_walks.specs.Regions.{IsPart, IsRest};
 ghost use Rattle.store_sat.specs.RootTables.{IsCovered};
 ghost use Rattle.store_logic.specs.Fits.{IsKnownDataVar};
 

@@ -2,8 +2,9 @@
 
 ghost use Rattle.std.specs.Prelude.{◌≡◌, ◌↔◌, ◌<◌, IfOk, IfSome, IsTrue, length};
 ghost use Rattle.std.specs.List.{AllByRecursion};
-ghost use Rattle.routing_expr.specs.Walks.{Walk};
-ghost use Rattle.routing_expr.specs.Searches.{Ground, Lists};
+ghost use Rattle.routing_walks.specs.Walks.{Walk};
+ghost use Rattle.routing_walks.specs.Sets.{Lists};
+ghost use Rattle.routing_expr.specs.Searches.{Ground};
 ghost use Rattle.store_sat.specs.WalksKept.{AreEnds, ground};
 
 use crate::same_route::are_same_routes;

@@ -5,7 +5,7 @@ ghost use Rattle.store_core.specs.Tables.{VarEntry, IsVarTable};
 ghost use Rattle.store_logic.specs.Terms.{outside};
 ghost use Rattle.store_logic.specs.Fits.{RegionFits};
 ghost use Rattle.store_logic.specs.Satisfaction.{Sat, SatAll};
-ghost use Rattle.routing_expr.specs.Regions.{store_on as on};
+ghost use Rattle.routing_walks.specs.Regions.{store_on as on};
 
 use crate::judge::Judge;
 use crate::region_cells::{part_of, rest_of};

@@ -1,6 +1,7 @@
 pub mod Writing
 pub mod Fitting
 pub mod ReadFits
+pub mod ReadValues
 pub mod ReadNext
 pub mod ReadFresh
 pub mod Words

@@ -9,7 +9,7 @@ use Rattle.store_text.specs.Lines.{lines_of}
 use Rattle.store_text.specs.Spelling.{line_of, all_of}
 use Rattle.store_text.specs.Saying.{Said, nothing_said}
 use Rattle.store_text.specs.Reading.{reading, read_text, read_lines, read_end, after_end, say_line, checked, store_said, next_after, is_misnamed}
-use Rattle.store_text.proofs.ReadFits.{cases, result_cases, bool_cases}
+use Rattle.store_text.proofs.ReadValues.{cases, result_cases, bool_cases}
 
 end_next : (s : StoreMap) (n : ℕ) (said : Said) (after : List (List ℕ)) → read_end n said after ≡ Ok s → s.next ≡ next_after (keys s.cells)
 unfolding read_end after_end checked

@@ -28,7 +28,7 @@ use Rattle.store_text.specs.Writable.{AreNames, HasNames, HaveNames, IsWritable,
 use Rattle.store_core.proofs.Names.{place_of-at}
 use Rattle.store_core.proofs.Bodies.{AllByRecursion-at}
 use Rattle.store_text.proofs.Fitting.{T-first, T-second, cell_at, entry_fits}
-use Rattle.store_text.proofs.ReadFits.{Fine, VarFits-holds}
+use Rattle.store_text.proofs.ReadValues.{Fine, VarFits-holds}
 use Rattle.store_text.proofs.Words.{HasNoLine, lines_cons}
 use Rattle.store_text.proofs.SpelledLines.{given, var_told, var_read, var_has_no_line, type_word, cell_told, cell_read, cell_has_no_line}
 use Rattle.store_text.proofs.ToldValues.{slice_get-front, slice_set-front, value_told, value_fine, fine_append}

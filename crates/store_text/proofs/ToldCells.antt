@@ -17,7 +17,7 @@ use Rattle.store_core.specs.Stores.{StoreMap, CellEntry, SlotsFit, CellFits}
 use Rattle.store_text.specs.Saying.{◌>>=◌, say_field, say_fields, cell_said, field_had, variant_named, named_in, mentions_of, field_holds}
 use Rattle.store_core.proofs.Names.{place_of-at}
 use Rattle.store_core.proofs.Adding.{at_known}
-use Rattle.store_text.proofs.ReadFits.{Fine, HoldsFit, FieldFits-holds}
+use Rattle.store_text.proofs.ReadValues.{Fine, HoldsFit, FieldFits-holds}
 use Rattle.store_text.proofs.SpelledLines.{given, givens}
 use Rattle.store_text.proofs.ToldValues.{slice_get-front, slice_set-front, value_told, value_fine, fine_append}
 

@@ -20,7 +20,7 @@ use Rattle.store_core.specs.CellLists.{AreRising}
 use Rattle.store_core.specs.Stores.{StoreMap, CellEntry, NamesType, cell_of}
 use Rattle.store_text.specs.Saying.{or_fault, value_for, set_of, members_after, cells_numbered, mentions_of}
 use Rattle.store_core.proofs.Growing.{AllByRecursion-push, AllByRecursion-weaker}
-use Rattle.store_text.proofs.ReadFits.{Fine, HoldsFit}
+use Rattle.store_text.proofs.ReadValues.{Fine, HoldsFit}
 use Rattle.store_text.proofs.Spelled.{spelled_of}
 
 -- ---- lists with one more done

@@ -4,7 +4,8 @@ ghost use Rattle.std.specs.Prelude.{◌<◌, length};
 
 use pale_parse::parse;
 use pale_text::{TextStop, lex};
-use pale_types::{Typed, check_types};
+use pale_typed::Typed;
+use pale_types::check_types;
 use std::alloc::{AllocError, Global};
 use std::test::Fail;
 

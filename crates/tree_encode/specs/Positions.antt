@@ -7,7 +7,7 @@ use Rattle.store_core.specs.declared.ids.VarId.{VarId}
 use Rattle.store_core.specs.declared.ids.CellId.{CellId}
 use Rattle.store_core.specs.Tables.{TypeEntry, VarEntry}
 use Rattle.store_core.specs.Stores.{StoreMap}
-use Rattle.routing_laws.specs.Paths.{StandsAt}
+use Rattle.routing_walks.specs.Paths.{StandsAt}
 use Rattle.tree_encode.specs.Tracks.{slot_of_var, child_number}
 
 -- the position below u to which these data fields lead one after the other: each to the child with its number

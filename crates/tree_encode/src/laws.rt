@@ -11,7 +11,7 @@ ghost use Rattle.store_core.specs.declared.ids.CellId.{CellId};
 ghost use Rattle.store_core.specs.Stores.{StoreMap, CellEntry, IsLive, cell_of};
 ghost use Rattle.gta_theory.specs.Assignments.{Position};
 ghost use Rattle.gta_theory.specs.Guides.{IsGuide, space_at};
-ghost use Rattle.routing_expr.specs.WellFormed.{IsBackbone};
+ghost use Rattle.routing_walks.specs.WellFormed.{IsBackbone};
 ghost use Rattle.tree_encode.specs.Spaces.{first_space, spaces_in, guide_of, types_start};
 ghost use Rattle.tree_encode.specs.Positions.{IsPlaced, HasOnePosition};
 ghost use Rattle.tree_encode.specs.Tracks.{of_variant, of_bool, of_var, tracks_of, track_count, variant_track, bool_track, var_track};

@@ -18,7 +18,7 @@ use Rattle.store_core.specs.declared.value.Value.{Value}
 use Rattle.store_core.specs.declared.value.Value.TheVariants as value
 use Rattle.store_core.specs.Tables.{TypeEntry, VarEntry, field_at, var_at}
 use Rattle.store_core.specs.Stores.{StoreMap, CellEntry, cell_of, field_value, var_value}
-use Rattle.routing_expr.specs.Walks.{IsOfVariant}
+use Rattle.routing_walks.specs.Walks.{IsOfVariant}
 use Rattle.tree_encode.specs.declared.counting.Counted.TheVariants.{Bools}
 use Rattle.tree_encode.specs.Counting.{counts, is_counted}
 use Rattle.tree_encode.specs.Tracks.{TrackUse, of_variant, of_bool, of_var, variant_track, bool_track, var_track, slot_of_var}

@@ -15,10 +15,10 @@ use Rattle.store_core.specs.declared.value.Value.TheVariants as value
 use Rattle.store_core.specs.Tables.{TypeEntry, VarEntry, field_at, var_at}
 use Rattle.store_core.specs.Stores.{StoreMap, CellEntry, cell_of, field_value, var_value, Fits}
 use Rattle.store_core.proofs.FittingLemmas.{IfSome-at, IsSomeAnd-at}
-use Rattle.routing_expr.specs.declared.fault.Place.TheVariants as place
-use Rattle.routing_expr.specs.Walks.{DataAlone, IsFollowed, Leads, IsOfType, IsOfVariant}
-use Rattle.routing_expr.specs.WellFormed.{IsDataVar, Names, VarHoldsLive, FieldHoldsLive, IsBackbone}
-use Rattle.routing_laws.specs.Paths.{LeadsAlong}
+use Rattle.routing_walks.specs.declared.fault.Place.TheVariants as place
+use Rattle.routing_walks.specs.Walks.{DataAlone, IsFollowed, Leads, IsOfType, IsOfVariant}
+use Rattle.routing_walks.specs.WellFormed.{IsDataVar, Names, VarHoldsLive, FieldHoldsLive, IsBackbone}
+use Rattle.routing_walks.specs.Paths.{LeadsAlong}
 use Rattle.tree_encode.specs.declared.counting.Counted.TheVariants.{Children}
 use Rattle.tree_encode.specs.Counting.{rank, is_data_var}
 use Rattle.tree_encode.specs.Tracks.{of_bool, bool_track, slot_of_var, child_number}

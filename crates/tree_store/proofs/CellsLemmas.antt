@@ -15,7 +15,7 @@ use Rattle.store_core.specs.CellLists.{AreRising}
 use Rattle.store_core.specs.Tables.{TypeEntry}
 use Rattle.store_core.specs.Stores.{CellEntry}
 use Rattle.store_core.proofs.Cells.{less_cmp, and_T}
-use Rattle.routing_expr.proofs.GatheringLemmas.{Contains-here, Contains-there, Contains-cases, Contains-none}
+use Rattle.routing_walks.proofs.GatheringLemmas.{Contains-here, Contains-there, Contains-cases, Contains-none}
 use Rattle.tree_store.specs.Shapes.{IsCellOf}
 use Rattle.tree_store.specs.Preorder.{ComesBefore}
 use Rattle.tree_store.specs.Decoded.{Standing, AreCells, numbered, first_where, all_where, cell_in, entries_in}

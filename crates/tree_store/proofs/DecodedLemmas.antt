@@ -25,10 +25,10 @@ use Rattle.store_core.specs.declared.value.Value.TheVariants as value
 use Rattle.store_core.specs.Tables.{TypeEntry, FieldEntry, VarEntry, fields_of, field_at, var_at, is_had, has_field}
 use Rattle.store_core.specs.Stores.{StoreMap, field_value}
 use Rattle.store_core.proofs.FittingLemmas.{IfSome-at, IsSomeAnd-at}
-use Rattle.routing_expr.specs.declared.fault.Place.TheVariants as place
-use Rattle.routing_expr.specs.Walks.{DataAlone, IsFollowed, Leads}
-use Rattle.routing_expr.specs.WellFormed.{IsDataVar, Names}
-use Rattle.routing_laws.specs.Paths.{LeadsAlong}
+use Rattle.routing_walks.specs.declared.fault.Place.TheVariants as place
+use Rattle.routing_walks.specs.Walks.{DataAlone, IsFollowed, Leads}
+use Rattle.routing_walks.specs.WellFormed.{IsDataVar, Names}
+use Rattle.routing_walks.specs.Paths.{LeadsAlong}
 use Rattle.tree_encode.specs.declared.counting.Counted.TheVariants.{Children}
 use Rattle.tree_encode.specs.Counting.{counts, is_counted, rank, is_data_var, is_data_kind, variants_in, bools_in}
 use Rattle.tree_encode.specs.Tracks.{track_at, var_track, slot_of_var, child_number}

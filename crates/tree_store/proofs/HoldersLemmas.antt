@@ -15,8 +15,8 @@ use Rattle.store_core.specs.declared.value.Value.TheVariants as value
 use Rattle.store_core.specs.Tables.{TypeEntry, VarEntry, var_at}
 use Rattle.store_core.specs.Stores.{StoreMap, var_value, VarFits, Fits}
 use Rattle.store_core.proofs.FittingLemmas.{IfSome-from, IfSome-at, IsSomeAnd-at, var_at_value}
-use Rattle.routing_expr.specs.Walks.{IsOfType}
-use Rattle.routing_expr.specs.WellFormed.{IsDataVar, VarHoldsLive, SetHoldsLive, IsBackbone}
+use Rattle.routing_walks.specs.Walks.{IsOfType}
+use Rattle.routing_walks.specs.WellFormed.{IsDataVar, VarHoldsLive, SetHoldsLive, IsBackbone}
 use Rattle.tree_encode.specs.Counting.{is_data_var}
 use Rattle.tree_encode.specs.Tracks.{of_var, var_track, slot_of_var}
 use Rattle.tree_encode.specs.Positions.{IsPlaced}

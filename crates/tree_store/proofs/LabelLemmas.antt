@@ -12,7 +12,7 @@ use Rattle.store_core.specs.declared.value.Value.TheVariants as value
 use Rattle.store_core.specs.Tables.{TypeEntry, VarEntry, fields_of}
 use Rattle.store_core.specs.Stores.{StoreMap, CellEntry, cell_of, field_value}
 use Rattle.store_core.proofs.FittingLemmas.{IsSomeAnd-at}
-use Rattle.routing_expr.specs.Walks.{IsOfVariant}
+use Rattle.routing_walks.specs.Walks.{IsOfVariant}
 use Rattle.tree_encode.specs.Counting.{variants_in, bools_in}
 use Rattle.tree_encode.specs.Tracks.{of_variant, of_bool, of_var, track_at, variant_track, bool_track, var_track}
 use Rattle.tree_encode.proofs.TracksLemmas.{cond-some, and_then-some}

@@ -27,12 +27,12 @@ use Rattle.store_core.specs.Stores.{cell_of, field_value, var_value}
 use Rattle.store_core.proofs.AboveLemmas.{IsAbove-from}
 use Rattle.store_core.proofs.FittingLemmas.{IfSome-from, IsSomeAnd-at}
 use Rattle.store_core.proofs.FreshLemmas.{IsFresh-no_dead, AllByRecursion-from}
-use Rattle.routing_expr.specs.declared.fault.Place.{Place}
-use Rattle.routing_expr.specs.declared.fault.Place.TheVariants as place
-use Rattle.routing_expr.specs.Walks.{DataAlone, IsFollowed, IsOfType}
-use Rattle.routing_expr.specs.WellFormed.{Names, HoldsOfType, VarHoldsLive, FieldHoldsLive, SetHoldsLive, IsInTree, IsBackbone}
-use Rattle.routing_expr.proofs.GatheringLemmas.{Contains-at}
-use Rattle.routing_laws.proofs.PathLemmas.{HasPath-IsInTree}
+use Rattle.routing_walks.specs.declared.fault.Place.{Place}
+use Rattle.routing_walks.specs.declared.fault.Place.TheVariants as place
+use Rattle.routing_walks.specs.Walks.{DataAlone, IsFollowed, IsOfType}
+use Rattle.routing_walks.specs.WellFormed.{Names, HoldsOfType, VarHoldsLive, FieldHoldsLive, SetHoldsLive, IsInTree, IsBackbone}
+use Rattle.routing_walks.proofs.GatheringLemmas.{Contains-at}
+use Rattle.routing_walks.proofs.PathLemmas.{HasPath-IsInTree}
 use Rattle.tree_encode.specs.Tracks.{variant_track, var_track, slot_of_var, child_number}
 use Rattle.tree_encode.proofs.TracksLemmas.{cond-some}
 use Rattle.tree_store.specs.Shapes.{HasCellsIn, VarLaysOut, LaysOut}

@@ -12,9 +12,9 @@ use Rattle.store_core.specs.declared.value.Value.{Value}
 use Rattle.store_core.specs.Tables.{TypeEntry, FieldEntry, VarEntry, fields_of, is_had, variant_count}
 use Rattle.store_core.specs.Stores.{StoreMap, CellEntry, IsLive, cell_of, field_of, field_value, SlotsFit, CellFits, Fits}
 use Rattle.store_core.proofs.FittingLemmas.{IfSome-at, IsSomeAnd-at, same_type}
-use Rattle.routing_expr.specs.Walks.{DataAlone, Leads, IsOfType, IsOfVariant}
-use Rattle.routing_expr.proofs.LiveLemmas.{Leads-live}
-use Rattle.routing_laws.specs.Paths.{LeadsAlong}
+use Rattle.routing_walks.specs.Walks.{DataAlone, Leads, IsOfType, IsOfVariant}
+use Rattle.routing_walks.proofs.LiveLemmas.{Leads-live}
+use Rattle.routing_walks.specs.Paths.{LeadsAlong}
 use Rattle.tree_encode.specs.Tracks.{of_variant, track_at, variant_track}
 use Rattle.tree_encode.specs.Positions.{below, IsPlaced}
 use Rattle.tree_encode.specs.Tracks.{child_number}

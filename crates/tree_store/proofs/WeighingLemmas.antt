@@ -17,8 +17,8 @@ use Rattle.store_core.specs.declared.ids.CellId.{CellId}
 use Rattle.store_core.specs.Tables.{TypeEntry, VarEntry, variant_count}
 use Rattle.store_core.specs.Stores.{StoreMap, CellEntry, IsLive, cell_of, CellFits, Fits}
 use Rattle.store_core.proofs.FittingLemmas.{IfSome-at, IsSomeAnd-at}
-use Rattle.routing_expr.specs.WellFormed.{IsBackbone}
-use Rattle.routing_expr.proofs.KeyLemmas.{keys-rise, key_of_live, live_of_key}
+use Rattle.routing_walks.specs.WellFormed.{IsBackbone}
+use Rattle.routing_walks.proofs.KeyLemmas.{keys-rise, key_of_live, live_of_key}
 use Rattle.tree_encode.specs.Counting.{variants_in}
 use Rattle.tree_encode.specs.Tracks.{of_variant, track_at, variant_track}
 use Rattle.tree_encode.specs.Positions.{IsPlaced}

@@ -9,7 +9,7 @@ use Rattle.store_core.specs.declared.value.Value.{Value}
 use Rattle.store_core.specs.declared.value.Value.TheVariants as value
 use Rattle.store_core.specs.Tables.{TypeEntry, VarEntry}
 use Rattle.store_core.specs.Stores.{StoreMap, field_value, var_value}
-use Rattle.routing_expr.specs.Walks.{IsOfVariant}
+use Rattle.routing_walks.specs.Walks.{IsOfVariant}
 use Rattle.tree_encode.specs.Tracks.{TrackUse, of_variant, of_bool, of_var, track_count, variant_track, bool_track, var_track}
 use Rattle.tree_encode.specs.Positions.{IsPlaced}
 

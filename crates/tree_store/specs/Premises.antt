@@ -4,7 +4,7 @@ use Rattle.store_core.specs.declared.ids.FieldId.{FieldId}
 use Rattle.store_core.specs.declared.ids.VarId.{VarId}
 use Rattle.store_core.specs.Tables.{TypeEntry, VarEntry, field_at, var_at, variant_count}
 use Rattle.store_core.specs.Stores.{StoreMap, var_value}
-use Rattle.routing_expr.specs.WellFormed.{SetHoldsLive}
+use Rattle.routing_walks.specs.WellFormed.{SetHoldsLive}
 
 -- a field that one variant alone has is one of a variant that its type has
 abbrev pub OwnersAreThere : List TypeEntry → Type 0

@@ -4,7 +4,7 @@ use Rattle.gta_theory.specs.Assignments.{Position, Assignment}
 use Rattle.store_core.specs.declared.ids.CellId.{CellId}
 use Rattle.store_core.specs.Tables.{TypeEntry, VarEntry}
 use Rattle.store_core.specs.Stores.{StoreMap, IsLive, Fits, IsFresh}
-use Rattle.routing_expr.specs.WellFormed.{IsBackbone}
+use Rattle.routing_walks.specs.WellFormed.{IsBackbone}
 use Rattle.tree_encode.specs.Positions.{IsPlaced}
 use Rattle.tree_store.specs.Encoding.{IsAssignmentOf}
 use Rattle.tree_store.specs.Premises.{SetsHoldLive}

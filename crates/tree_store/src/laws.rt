@@ -6,7 +6,7 @@ ghost use Rattle.gta_theory.specs.Assignments.{Assignment, Covers};
 ghost use Rattle.gta_theory.specs.Weights.{weight};
 ghost use Rattle.store_core.specs.Tables.{TypeEntry, VarEntry};
 ghost use Rattle.store_core.specs.Stores.{StoreMap, Fits};
-ghost use Rattle.routing_expr.specs.WellFormed.{IsBackbone};
+ghost use Rattle.routing_walks.specs.WellFormed.{IsBackbone};
 ghost use Rattle.tree_store.specs.Encoding.{IsAssignmentOf};
 ghost use Rattle.tree_store.specs.Weighing.{AreVariantTracks};
 

@@ -11,7 +11,7 @@ ghost use Rattle.store_core.specs.declared.ids.FieldId.{FieldId};
 ghost use Rattle.store_core.specs.declared.ids.VarId.{VarId};
 ghost use Rattle.store_core.specs.Tables.{TypeEntry, VarEntry, IsTypeTable};
 ghost use Rattle.store_core.specs.Stores.{StoreMap, Fits};
-ghost use Rattle.routing_expr.specs.WellFormed.{IsBackbone};
+ghost use Rattle.routing_walks.specs.WellFormed.{IsBackbone};
 ghost use Rattle.tree_encode.specs.Tracks.{track_count, slot_of_var, child_number};
 ghost use Rattle.tree_formula.specs.WellEncoded.{well_encoded};
 ghost use Rattle.tree_formula.specs.Worked.{list_types, list_vars, split_types, split_vars};

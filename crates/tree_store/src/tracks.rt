@@ -6,7 +6,7 @@ ghost use Rattle.store_core.specs.declared.ids.VariantId.{VariantId};
 ghost use Rattle.store_core.specs.declared.ids.FieldId.{FieldId};
 ghost use Rattle.store_core.specs.declared.ids.VarId.{VarId};
 ghost use Rattle.store_core.specs.Stores.{field_value};
-ghost use Rattle.routing_expr.specs.Walks.{IsOfVariant};
+ghost use Rattle.routing_walks.specs.Walks.{IsOfVariant};
 ghost use Rattle.tree_encode.specs.Tracks.{of_var, variant_track, bool_track, var_track};
 ghost use Rattle.tree_store.specs.Encoding.{NamesCell};
 ghost use Rattle.tree_store.specs.Rows.{IsRows};

@@ -17,7 +17,7 @@ use Rattle.store_core.specs.Stores.{StoreMap}
 use Rattle.store_exec.specs.declared.cause.Cause.{Cause}
 use Rattle.store_exec.specs.declared.triple.Triple.{Triple}
 use Rattle.witness_store.proofs.ExistenceLemmas.{set_store}
-use Rattle.routing_expr.proofs.GatheringLemmas.{Contains-none, Contains-here, Contains-there, Contains-cases}
+use Rattle.routing_walks.proofs.GatheringLemmas.{Contains-none, Contains-here, Contains-there, Contains-cases}
 use Rattle.tree_encode.specs.Tracks.{track_at, variants_from}
 use Rattle.tree_store.specs.Weighing.{AreVariantTracks}
 use Rattle.tree_store.proofs.WeighingLemmas.{weight-cells}

@@ -21,7 +21,7 @@ use Rattle.store_exec.specs.declared.cause.Cause.{Cause}
 use Rattle.store_exec.specs.declared.triple.Triple.{Triple}
 use Rattle.store_exec.specs.Failing.{Meets, Fails}
 use Rattle.witness_store.specs.Pointers.{ArePointersSet}
-use Rattle.routing_expr.specs.WellFormed.{IsWellFormed}
+use Rattle.routing_walks.specs.WellFormed.{IsWellFormed}
 use Rattle.tree_encode.specs.Tracks.{track_count, var_track}
 use Rattle.tree_store.specs.Shapes.{LaysOut}
 use Rattle.tree_store.specs.Encoding.{IsAssignmentOf}

@@ -10,7 +10,7 @@ use Rattle.store_core.specs.Tables.{TypeEntry, VarEntry}
 use Rattle.store_exec.specs.declared.triple.Triple.{Triple}
 use Rattle.tree_encode.specs.Spaces.{guide_of}
 use Rattle.tree_encode.proofs.SpacesLemmas.{IsGuide-guide_of}
-use Rattle.routing_expr.proofs.GatheringLemmas.{below_suc}
+use Rattle.routing_walks.proofs.GatheringLemmas.{below_suc}
 use Rattle.site_list.specs.States.{Check}
 use Rattle.site_list.specs.Triples.{walked, site_formula_at, first_bound, site_formula}
 use Rattle.triple_judge.specs.Spares.{spares_of}

@@ -16,7 +16,7 @@ use Rattle.ws2s_decide.specs.declared.decider.Decider.{Decider}
 use Rattle.ws2s_decide.specs.declared.verdict.Verdict.{Verdict}
 use Rattle.ws2s_decide.specs.declared.verdict.Verdict.TheVariants as verdict
 use Rattle.ws2s_decide.specs.Deciding.{IsVerdict, guide_of, HasKept}
-use Rattle.routing_expr.proofs.GatheringLemmas.{below_suc}
+use Rattle.routing_walks.proofs.GatheringLemmas.{below_suc}
 use Rattle.triple_judge.specs.declared.searching.Found.{Found}
 use Rattle.triple_judge.specs.declared.searching.Searched.{Searched}
 use Rattle.triple_judge.specs.declared.searching.Searched.TheVariants as searched

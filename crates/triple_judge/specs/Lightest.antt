@@ -3,7 +3,7 @@ use Rattle.std.specs.Prelude.{List, length}
 use Rattle.ws2s_core.specs.declared.track.Track.{Track}
 use Rattle.store_core.specs.Tables.{TypeEntry, VarEntry}
 use Rattle.store_exec.specs.declared.triple.Triple.{Triple}
-use Rattle.routing_expr.specs.Gathering.{HasAll}
+use Rattle.routing_walks.specs.Gathering.{HasAll}
 use Rattle.field_judge.specs.Weighed.{IsVariantTrack}
 use Rattle.site_list.specs.Sites.{sites_of}
 use Rattle.site_list.specs.Triples.{site_formula}

@@ -30,8 +30,8 @@ use Rattle.store_exec.proofs.GoingLemmas.{news-Do}
 use Rattle.hoare_split.specs.Settings.{settings}
 use Rattle.hoare_split.proofs.FittingCodeLemmas.{Do-fits}
 use Rattle.pale_calls.specs.declared.class.VarClass.{VarClass}
-use Rattle.pale_types.specs.declared.typed.ProcEntry.{ProcEntry}
-use Rattle.pale_types.specs.TypedPrograms.{TypedProgram}
+use Rattle.pale_typed.specs.declared.typed.ProcEntry.{ProcEntry}
+use Rattle.pale_typed.specs.TypedPrograms.{TypedProgram}
 use Rattle.whole_exec.specs.Turning.{IsReady, CanRead, CanSet}
 use Rattle.whole_run.proofs.AnswerSettings.{settings_none}
 use Rattle.whole_run.proofs.AnswerSteps.{one_new}

@@ -1,10 +1,10 @@
 -- Where a run stands, as the code keeps it.
 use Rattle.std.specs.Prelude.{List, [], ◌∷◌, ◌++◌, map, flat_map, Option, Some, None}
 use Rattle.store_core.specs.Stores.{StoreMap}
-use Rattle.pale_types.specs.declared.typed.ProcEntry.{ProcEntry}
-use Rattle.pale_types.specs.declared.typed.Stmt.{Stmt, roll-Stmt}
-use Rattle.pale_types.specs.declared.typed.Stmt.TheVariants as stmt
-use Rattle.pale_types.specs.declared.typed.Stmt.TheOpen.{Stmt-F}
+use Rattle.pale_typed.specs.declared.typed.ProcEntry.{ProcEntry}
+use Rattle.pale_typed.specs.declared.typed.Stmt.{Stmt, roll-Stmt}
+use Rattle.pale_typed.specs.declared.typed.Stmt.TheVariants as stmt
+use Rattle.pale_typed.specs.declared.typed.Stmt.TheOpen.{Stmt-F}
 use Rattle.whole_run.specs.States.{Frame, Waiting, State, runs, exited}
 use Rattle.whole_run.specs.Turns.{behind_cut}
 use Rattle.whole_exec.specs.declared.pieces.Loop.{Loop}

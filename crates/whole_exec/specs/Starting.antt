@@ -1,8 +1,8 @@
 -- Stores from which a procedure can be run.
 use Rattle.std.specs.Prelude.{◌≡◌, ◌+◌, ◌<◌, ℕ, Some, slice_get}
 use Rattle.store_core.specs.Stores.{StoreMap, Fits, IsFresh}
-use Rattle.pale_types.specs.declared.typed.ProcEntry.{ProcEntry}
-use Rattle.pale_types.specs.TypedPrograms.{TypedProgram}
+use Rattle.pale_typed.specs.declared.typed.ProcEntry.{ProcEntry}
+use Rattle.pale_typed.specs.TypedPrograms.{TypedProgram}
 
 -- there is a procedure of this number, the store fits its variables and is fresh, and each step finds a number for a new cell
 pub record CanStart (program : TypedProgram) (number : ℕ) (s : StoreMap) (steps : ℕ) : Type 0 where

@@ -14,12 +14,12 @@ use Rattle.store_exec.specs.Runs.{RunsItems}
 use Rattle.store_exec.specs.Steps.{truth_of}
 use Rattle.store_exec.specs.Cuts.{AtCut}
 use Rattle.store_exec.specs.Restricted.{restricted}
-use Rattle.pale_types.specs.declared.typed.ProcEntry.{ProcEntry}
-use Rattle.pale_types.specs.declared.typed.Stmt.{Stmt}
-use Rattle.pale_types.specs.declared.typed.Stmt.TheVariants as stmt
-use Rattle.pale_types.specs.declared.typed.Stmt.TheOpen.{Stmt-F}
-use Rattle.pale_types.specs.TypedPrograms.{TypedProgram}
-use Rattle.pale_types.specs.Fitting.{ProcFits, StatementFits, StatementFitsNode}
+use Rattle.pale_typed.specs.declared.typed.ProcEntry.{ProcEntry}
+use Rattle.pale_typed.specs.declared.typed.Stmt.{Stmt}
+use Rattle.pale_typed.specs.declared.typed.Stmt.TheVariants as stmt
+use Rattle.pale_typed.specs.declared.typed.Stmt.TheOpen.{Stmt-F}
+use Rattle.pale_typed.specs.TypedPrograms.{TypedProgram}
+use Rattle.pale_typed.specs.Fitting.{ProcFits, StatementFits, StatementFitsNode}
 use Rattle.whole_run.specs.States.{Waiting, State, runs, exited, Turn, goes, fails}
 use Rattle.whole_run.specs.Turns.{TakesForm, Takes, Returns}
 use Rattle.whole_run.specs.Runs.{Ends}

@@ -1,7 +1,7 @@
 //! Where a run stands.
 
 use crate::pieces::Piece;
-use pale_types::{CallParts, TypedProc};
+use pale_typed::{CallParts, TypedProc};
 use plain_data::Stack;
 use store_core::{Store, VarTable};
 

@@ -1,9 +1,9 @@
 //! A call: its cut, and the callee's entry.
 
 ghost use Rattle.std.specs.Prelude.{Ok, slice_get, IfOk, IsSome};
-ghost use Rattle.routing_expr.specs.Regions.{IsPart};
-ghost use Rattle.pale_types.specs.declared.typed.Stmt.TheOpen.{Stmt-F};
-ghost use Rattle.pale_types.specs.Fitting.{CallFits, ProgramFits};
+ghost use Rattle.routing_walks.specs.Regions.{IsPart};
+ghost use Rattle.pale_typed.specs.declared.typed.Stmt.TheOpen.{Stmt-F};
+ghost use Rattle.pale_typed.specs.Fitting.{CallFits, ProgramFits};
 ghost use Rattle.hoare_split.specs.Calls.{handed_by};
 ghost use Rattle.whole_run.specs.Turns.{Begins};
 ghost use Rattle.whole_exec.specs.Standings.{entry_of, frame_of, all_waiting};
@@ -12,9 +12,10 @@ ghost use Rattle.whole_exec.specs.Turning.{IsReady, IsEntered, turn_of, GoesAs};
 use crate::activation::{Activation, At, Suspended};
 use crate::arriving::set_and_arrive;
 use crate::pieces::Piece;
+use claim_laws::claims_with_actuals_put_in_fit;
 use hoare_split::{Caller, Pick, call_cut, caller_at, handed};
 use pale_text::Pos;
-use pale_types::{CallParts, Typed, claims_with_actuals_put_in_fit};
+use pale_typed::{CallParts, Typed};
 use plain_data::Stack;
 use routing_expr::reached;
 use std::alloc::{AllocError, Global};

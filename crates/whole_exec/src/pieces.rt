@@ -1,13 +1,13 @@
 //! The statements that are left of a procedure, as they are kept: by the blocks in which they stand.
 
 ghost use Rattle.std.specs.Prelude.{◌≡◌, ◌+◌, ◌<◌, ◌++◌, [], None, length, IfOk, MatchOption};
-ghost use Rattle.pale_types.specs.declared.typed.Stmt.{roll-Stmt};
-ghost use Rattle.pale_types.specs.declared.typed.Stmt.TheVariants as statement;
+ghost use Rattle.pale_typed.specs.declared.typed.Stmt.{roll-Stmt};
+ghost use Rattle.pale_typed.specs.declared.typed.Stmt.TheVariants as statement;
 ghost use Rattle.whole_exec.specs.Standings.{stmts_of, left_of, form_of, front};
 ghost use Rattle.whole_exec.specs.Turning.{Skips, weight_of};
 
 use pale_text::Pos;
-use pale_types::{CallParts, Stmt};
+use pale_typed::{CallParts, Stmt};
 use plain_data::Stack;
 use std::alloc::AllocError;
 use store_logic::{Act, Assertion, Cond};

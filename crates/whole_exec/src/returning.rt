@@ -7,7 +7,7 @@ ghost use Rattle.whole_exec.specs.Standings.{waiting_of, state_of};
 ghost use Rattle.whole_exec.specs.Turning.{CanReturn};
 
 use crate::activation::{At, Suspended};
-use pale_types::Typed;
+use pale_typed::Typed;
 use std::alloc::{AllocError, Global};
 use store_core::Store;
 use whole_handing::returned_store;

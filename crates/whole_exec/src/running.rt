@@ -1,8 +1,8 @@
 //! Whole runs.
 
 ghost use Rattle.std.specs.Prelude.{IfOk};
-ghost use Rattle.pale_types.specs.Fitting.{ProgramFits};
-ghost use Rattle.pale_types.specs.TypedPrograms.{TypedProgram};
+ghost use Rattle.pale_typed.specs.Fitting.{ProgramFits};
+ghost use Rattle.pale_typed.specs.TypedPrograms.{TypedProgram};
 ghost use Rattle.whole_run.specs.Runs.{Ends, WholeRun};
 ghost use Rattle.whole_exec.specs.Answers.{answer_of};
 ghost use Rattle.whole_exec.specs.Starting.{CanStart};
@@ -12,7 +12,8 @@ use crate::activation::{At, Suspended};
 use crate::answer::Answer;
 use crate::calling::entered;
 use crate::turning::{Turned, turn};
-use pale_types::{Typed, claims_with_actuals_put_in_fit};
+use claim_laws::claims_with_actuals_put_in_fit;
+use pale_typed::Typed;
 use plain_data::Stack;
 use std::alloc::{AllocError, Global};
 use store_core::Store;

@@ -2,12 +2,14 @@
 
 ghost use Rattle.std.specs.Prelude.{◌≡◌, ◌<◌, length, slice_get, option_map, Some, IsTrue, IfOk};
 ghost use Rattle.store_core.specs.Stores.{Fits, IsFresh};
-ghost use Rattle.pale_types.specs.Fitting.{ProgramFits};
+ghost use Rattle.pale_typed.specs.Fitting.{ProgramFits};
 
 use pale_parse::parse;
 use pale_text::{TextStop, lex};
-use pale_types::{Typed, check_types};
-use routing_expr::{well_formed, well_formed_stores_are_fresh};
+use pale_typed::Typed;
+use pale_types::check_types;
+use routing_expr::well_formed;
+use routing_walks::well_formed_stores_are_fresh;
 use std::alloc::{AllocError, Global};
 use std::fmt::Write;
 use store_core::{CellId, Store, Value, VarTable};

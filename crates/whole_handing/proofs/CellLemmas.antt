@@ -12,8 +12,8 @@ use Rattle.store_core.specs.Stores.{StoreMap, CellEntry}
 use Rattle.store_core.specs.StoreBodies.{cells_of, AreInOrder}
 use Rattle.store_core.proofs.AboveLemmas.{tied}
 use Rattle.store_core.proofs.Cells.{sorted_cells}
-use Rattle.routing_expr.specs.Regions.{has_number}
-use Rattle.routing_laws.proofs.RegionLemmas.{number_in, number_out}
+use Rattle.routing_walks.specs.Regions.{has_number}
+use Rattle.routing_walks.proofs.RegionLemmas.{number_in, number_out}
 
 -- a test that passes the members says which numbers are those of one of the cells
 pub member_is : (cells : List CellId) (number : ℕ) (b : Bool) → (IsTrue b ↔ Contains cells (record { 0 = number })) → b ≡ has_number cells number

@@ -18,7 +18,7 @@ use Rattle.store_core.proofs.AboveLemmas.{tied, ties, differs, live_below}
 use Rattle.store_core.proofs.Cells.{sorted_cells}
 use Rattle.store_core.proofs.Growing.{AllByRecursion-push}
 use Rattle.store_core.proofs.FreshLemmas.{AllByRecursion-from}
-use Rattle.routing_expr.proofs.KeyLemmas.{both_first, both_second, is_less}
+use Rattle.routing_walks.proofs.KeyLemmas.{both_first, both_second, is_less}
 use Rattle.routing_expr.proofs.RegionLemmas.{live_more}
 use Rattle.whole_handing.specs.declared.beside.Which.{Which}
 use Rattle.whole_handing.specs.declared.beside.Which.TheVariants as which

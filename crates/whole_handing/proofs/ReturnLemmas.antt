@@ -11,7 +11,7 @@ use Rattle.store_core.specs.Tables.{VarEntry}
 use Rattle.store_core.specs.Stores.{StoreMap}
 use Rattle.store_logic.specs.Terms.{null}
 use Rattle.store_exec.specs.Steps.{variable}
-use Rattle.pale_types.specs.declared.typed.CallParts.{CallParts}
+use Rattle.pale_typed.specs.declared.typed.CallParts.{CallParts}
 use Rattle.hoare_split.specs.Picking.{class_at, is_spent, numbered}
 use Rattle.whole_run.specs.Handing.{value_after}
 

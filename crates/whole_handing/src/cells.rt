@@ -5,7 +5,7 @@ ghost use Rattle.std.specs.List.{filter};
 ghost use Rattle.std.specs.FinMap.{entries, retain_keys};
 ghost use Rattle.store_core.specs.CellLists.{AreRising};
 ghost use Rattle.store_core.specs.StoreBodies.{cells_of, AreLive};
-ghost use Rattle.routing_expr.specs.Regions.{has_number};
+ghost use Rattle.routing_walks.specs.Regions.{has_number};
 ghost use Rattle.whole_handing.specs.Handed.{is_on};
 
 use plain_data::Items;

@@ -3,14 +3,14 @@
 ghost use Rattle.std.specs.Prelude.{◌≡◌, ◌++◌, IfOk, OnOk, map, filter};
 ghost use Rattle.store_core.specs.CellLists.{AreRising};
 ghost use Rattle.store_core.specs.Stores.{blank, var_class};
-ghost use Rattle.routing_expr.specs.Regions.{has_number};
-ghost use Rattle.routing_laws.specs.Pieces as regions;
+ghost use Rattle.routing_walks.specs.Regions.{has_number};
+ghost use Rattle.routing_walks.specs.Pieces as regions;
 ghost use Rattle.whole_run.specs.Handing as calls;
 ghost use Rattle.store_exec.specs.Steps as steps;
 
 use crate::cells::{is_member, store_of};
 use pale_calls::Actual;
-use pale_types::{CallParts, TypedProc};
+use pale_typed::{CallParts, TypedProc};
 use plain_data::Items;
 use std::alloc::{AllocError, Global};
 use store_core::{CellId, CellList, Store, Value, VarId, VarKind, VarTable, copy_values};

@@ -10,7 +10,7 @@ ghost use Rattle.whole_handing.specs.Beside.{AreApart};
 use crate::beside::beside;
 use crate::restricting::restricted;
 use hoare_split::{class_at, is_argument, is_listed};
-use pale_types::CallParts;
+use pale_typed::CallParts;
 use plain_data::Items;
 use std::alloc::{AllocError, Global};
 use store_core::{Store, Value, VarId, VarTable};

@@ -3,15 +3,15 @@ use Rattle.std.proofs.Common.{◌≡◌, ℕ, List, Some, None, slice_get}
 use Rattle.store_core.specs.declared.ids.CellId.{CellId}
 use Rattle.store_core.specs.Tables.{VarEntry}
 use Rattle.store_core.specs.Stores.{StoreMap, Fits}
-use Rattle.routing_expr.specs.Regions.{IsPart}
-use Rattle.routing_expr.specs.WellFormed.{IsWellFormed}
+use Rattle.routing_walks.specs.Regions.{IsPart}
+use Rattle.routing_walks.specs.WellFormed.{IsWellFormed}
 use Rattle.store_exec.specs.Restricted.{restricted}
 use Rattle.store_exec.specs.Cuts.{AreMet, AtCut}
 use Rattle.store_exec.specs.Failing.{StartHolds}
-use Rattle.pale_types.specs.declared.typed.CallParts.{CallParts}
-use Rattle.pale_types.specs.declared.typed.ProcEntry.{ProcEntry}
-use Rattle.pale_types.specs.TypedPrograms.{TypedProgram}
-use Rattle.pale_types.specs.Fitting.{CallFits, ProgramFits}
+use Rattle.pale_typed.specs.declared.typed.CallParts.{CallParts}
+use Rattle.pale_typed.specs.declared.typed.ProcEntry.{ProcEntry}
+use Rattle.pale_typed.specs.TypedPrograms.{TypedProgram}
+use Rattle.pale_typed.specs.Fitting.{CallFits, ProgramFits}
 use Rattle.hoare_split.specs.Picking.{those, is_awaited, is_left}
 use Rattle.hoare_split.specs.Calls.{handed_by}
 use Rattle.hoare_split.specs.Cuts.{plain_cut, call_cut}

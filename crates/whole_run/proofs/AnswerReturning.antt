@@ -4,15 +4,15 @@ use Rattle.std.specs.List.{AllByRecursion, AllZip}
 use Rattle.store_core.specs.declared.ids.CellId.{CellId}
 use Rattle.store_core.specs.Tables.{TypeEntry, VarEntry}
 use Rattle.store_core.specs.Stores.{StoreMap, IsLive}
-use Rattle.routing_expr.specs.WellFormed.{IsWellFormed}
-use Rattle.routing_expr.proofs.FreshLemmas.{IsFresh-well_formed}
-use Rattle.routing_expr.proofs.TreeLemmas.{IsInTree-live}
+use Rattle.routing_walks.specs.WellFormed.{IsWellFormed}
+use Rattle.routing_walks.proofs.FreshLemmas.{IsFresh-well_formed}
+use Rattle.routing_walks.proofs.TreeLemmas.{IsInTree-live}
 use Rattle.store_logic.proofs.ExpandingLists.{all-first, all-second}
 use Rattle.store_exec.specs.Restricted.{restricted}
 use Rattle.store_exec.proofs.RestrictedLemmas.{well_formed-at_cut}
-use Rattle.pale_types.specs.declared.typed.ProcEntry.{ProcEntry}
-use Rattle.pale_types.specs.TypedPrograms.{TypedProgram}
-use Rattle.pale_types.specs.Fitting.{ProgramFits, IsLike, IsProgramVariable}
+use Rattle.pale_typed.specs.declared.typed.ProcEntry.{ProcEntry}
+use Rattle.pale_typed.specs.TypedPrograms.{TypedProgram}
+use Rattle.pale_typed.specs.Fitting.{ProgramFits, IsLike, IsProgramVariable}
 use Rattle.hoare_split.specs.Cuts.{call_cut}
 use Rattle.whole_run.specs.States.{Waiting, runs, exited, Turn, goes}
 use Rattle.whole_run.specs.Handing.{rest_store, returned_store}

@@ -4,14 +4,14 @@ use Rattle.std.specs.List.{AllByRecursion}
 use Rattle.store_core.specs.declared.ids.CellId.{CellId}
 use Rattle.store_core.specs.Tables.{TypeEntry}
 use Rattle.store_core.specs.Stores.{StoreMap, Fits}
-use Rattle.routing_expr.specs.Regions.{IsPart}
+use Rattle.routing_walks.specs.Regions.{IsPart}
 use Rattle.store_exec.specs.Restricted.{restricted}
 use Rattle.store_exec.specs.Cuts.{AtCut}
 use Rattle.store_exec.proofs.KeepLemmas.{IsWell}
-use Rattle.pale_types.specs.declared.typed.ProcEntry.{ProcEntry}
-use Rattle.pale_types.specs.declared.typed.Stmt.{Stmt}
-use Rattle.pale_types.specs.TypedPrograms.{TypedProgram}
-use Rattle.pale_types.specs.Fitting.{CallFits, ProcFits, StatementFits}
+use Rattle.pale_typed.specs.declared.typed.ProcEntry.{ProcEntry}
+use Rattle.pale_typed.specs.declared.typed.Stmt.{Stmt}
+use Rattle.pale_typed.specs.TypedPrograms.{TypedProgram}
+use Rattle.pale_typed.specs.Fitting.{CallFits, ProcFits, StatementFits}
 use Rattle.hoare_split.specs.Picking.{those, is_awaited, is_left}
 use Rattle.hoare_split.specs.Calls.{handed_by}
 use Rattle.hoare_split.specs.Cuts.{plain_cut, call_cut}

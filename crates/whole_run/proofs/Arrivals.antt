@@ -8,10 +8,10 @@ use Rattle.store_logic.proofs.ExpandingLists.{all-first, all-second, all-append}
 use Rattle.store_exec.specs.declared.code.Item.{Item}
 use Rattle.store_exec.specs.declared.code.Item.TheVariants as item
 use Rattle.pale_text.specs.declared.place.Pos.{Pos}
-use Rattle.pale_types.specs.declared.typed.ProcEntry.{ProcEntry}
-use Rattle.pale_types.specs.declared.typed.Stmt.{Stmt, roll-Stmt}
-use Rattle.pale_types.specs.declared.typed.Stmt.TheOpen.{Stmt-F}
-use Rattle.pale_types.specs.declared.typed.Stmt.TheFolds.{fold-Stmt, fold-roll-Stmt, map-Stmt, ind-Stmt}
+use Rattle.pale_typed.specs.declared.typed.ProcEntry.{ProcEntry}
+use Rattle.pale_typed.specs.declared.typed.Stmt.{Stmt, roll-Stmt}
+use Rattle.pale_typed.specs.declared.typed.Stmt.TheOpen.{Stmt-F}
+use Rattle.pale_typed.specs.declared.typed.Stmt.TheFolds.{fold-Stmt, fold-roll-Stmt, map-Stmt, ind-Stmt}
 use Rattle.hoare_split.specs.declared.reached.Point.TheVariants as point
 use Rattle.hoare_split.specs.Picking.{is_awaited}
 use Rattle.hoare_split.specs.Settings.{settings}

@@ -16,15 +16,15 @@ use Rattle.store_core.specs.declared.ids.CellId.{CellId}
 use Rattle.store_core.specs.declared.value.Value.{Value}
 use Rattle.store_core.specs.Tables.{VarEntry}
 use Rattle.store_core.specs.Stores.{StoreMap, CellEntry, IsLive, cell_of, var_value}
-use Rattle.routing_expr.specs.Regions.{has_number, IsRest}
-use Rattle.routing_laws.specs.Pieces.{piece_on}
-use Rattle.routing_laws.proofs.DecidedLemmas.{decided_in}
-use Rattle.routing_laws.proofs.DecidedWalks.{decided_same_cell}
-use Rattle.routing_laws.proofs.PieceLemmas.{piece_on-IsOn}
-use Rattle.routing_laws.proofs.RegionLemmas.{number_in, number_out}
+use Rattle.routing_walks.specs.Regions.{has_number, IsRest}
+use Rattle.routing_walks.specs.Pieces.{piece_on}
+use Rattle.routing_walks.proofs.DecidedLemmas.{decided_in}
+use Rattle.routing_walks.proofs.DecidedWalks.{decided_same_cell}
+use Rattle.routing_walks.proofs.PieceLemmas.{piece_on-IsOn}
+use Rattle.routing_walks.proofs.RegionLemmas.{number_in, number_out}
 use Rattle.store_logic.specs.Terms.{null}
 use Rattle.store_exec.specs.Steps.{variable}
-use Rattle.pale_types.specs.declared.typed.CallParts.{CallParts}
+use Rattle.pale_typed.specs.declared.typed.CallParts.{CallParts}
 use Rattle.hoare_split.specs.Picking.{class_at, is_listed, is_argument, is_spent, numbered}
 use Rattle.hoare_split.proofs.FittingVariableLemmas.{same-var}
 use Rattle.whole_run.specs.Handing.{rest_store, value_after, beside_rest}

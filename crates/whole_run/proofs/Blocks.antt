@@ -11,12 +11,12 @@ use Rattle.store_logic.specs.FitsCode.{CondFits}
 use Rattle.store_logic.proofs.ExpandingLists.{all-first, all-second, all-append}
 use Rattle.store_exec.specs.declared.code.Item.{Item}
 use Rattle.pale_text.specs.declared.place.Pos.{Pos}
-use Rattle.pale_types.specs.declared.typed.ProcEntry.{ProcEntry}
-use Rattle.pale_types.specs.declared.typed.Stmt.{Stmt, roll-Stmt, out-Stmt, roll-out-Stmt}
-use Rattle.pale_types.specs.declared.typed.Stmt.TheVariants as stmt
-use Rattle.pale_types.specs.declared.typed.Stmt.TheOpen.{Stmt-F}
-use Rattle.pale_types.specs.declared.typed.Stmt.TheFolds.{rec-roll-Stmt, map-Stmt}
-use Rattle.pale_types.specs.Fitting.{StatementFitsNode, StatementFits}
+use Rattle.pale_typed.specs.declared.typed.ProcEntry.{ProcEntry}
+use Rattle.pale_typed.specs.declared.typed.Stmt.{Stmt, roll-Stmt, out-Stmt, roll-out-Stmt}
+use Rattle.pale_typed.specs.declared.typed.Stmt.TheVariants as stmt
+use Rattle.pale_typed.specs.declared.typed.Stmt.TheOpen.{Stmt-F}
+use Rattle.pale_typed.specs.declared.typed.Stmt.TheFolds.{rec-roll-Stmt, map-Stmt}
+use Rattle.pale_typed.specs.Fitting.{StatementFitsNode, StatementFits}
 use Rattle.hoare_split.specs.Flows.{Flow, ends, branches}
 use Rattle.hoare_split.specs.Cuts.{at_assertion}
 use Rattle.hoare_split.specs.Passages.{Started, Passage, then_next, choice, choice_of}

@@ -17,7 +17,7 @@ use Rattle.store_logic.specs.Fits.{AssertionFits}
 use Rattle.store_exec.specs.Steps.{variable}
 use Rattle.store_exec.specs.Restricted.{live_part, restricted}
 use Rattle.store_exec.specs.Cuts.{IsMet, AreMet}
-use Rattle.pale_types.specs.Fitting.{NameMayBe, StatedFits}
+use Rattle.pale_typed.specs.Fitting.{NameMayBe, StatedFits}
 use Rattle.hoare_split.specs.Calls.{on_all}
 use Rattle.whole_run.proofs.Holding.{Alike, satisfied_too}
 use Rattle.whole_run.proofs.HandedStart.{left_in, kept_in, variable_now}

@@ -15,21 +15,21 @@ use Rattle.store_core.specs.declared.value.Value.{Value}
 use Rattle.store_core.specs.declared.value.Value.TheVariants as value
 use Rattle.store_core.specs.Tables.{TypeEntry, VarEntry, var_at}
 use Rattle.store_core.specs.Stores.{StoreMap, IsLive, var_value, blank, var_class, VarFits, VarsFit}
-use Rattle.routing_expr.specs.Regions.{has_number, IsOn}
-use Rattle.routing_expr.specs.WellFormed.{IsDataVar}
-use Rattle.routing_laws.specs.Pieces.{value_on, piece_on}
-use Rattle.routing_laws.proofs.DecidedLemmas.{in_none, in_rest, in_cases, in_at}
-use Rattle.routing_laws.proofs.RegionLemmas.{number_in, in_number}
-use Rattle.routing_laws.proofs.PieceLemmas.{piece_on-IsOn}
+use Rattle.routing_walks.specs.Regions.{has_number, IsOn}
+use Rattle.routing_walks.specs.WellFormed.{IsDataVar}
+use Rattle.routing_walks.specs.Pieces.{value_on, piece_on}
+use Rattle.routing_walks.proofs.DecidedLemmas.{in_none, in_rest, in_cases, in_at}
+use Rattle.routing_walks.proofs.RegionLemmas.{number_in, in_number}
+use Rattle.routing_walks.proofs.PieceLemmas.{piece_on-IsOn}
 use Rattle.store_logic.specs.Terms.{null}
 use Rattle.store_exec.specs.Steps.{variable}
 use Rattle.pale_calls.specs.declared.actual.Actual.{Actual}
 use Rattle.pale_calls.specs.declared.actual.Actual.TheVariants as actual
 use Rattle.pale_calls.specs.Classes.{class_of, holds_cell, is_logic}
-use Rattle.pale_types.specs.declared.typed.CallParts.{CallParts}
-use Rattle.pale_types.specs.declared.typed.ProcEntry.{ProcEntry}
-use Rattle.pale_types.specs.Sights.{numbers}
-use Rattle.pale_types.specs.Fitting.{kind_at, IsOfClass, IsLogicVariable, IsProgramVariable, ActualFits, cell_in, cells_in}
+use Rattle.pale_typed.specs.declared.typed.CallParts.{CallParts}
+use Rattle.pale_typed.specs.declared.typed.ProcEntry.{ProcEntry}
+use Rattle.pale_typed.specs.Variables.{numbers}
+use Rattle.pale_typed.specs.Fitting.{kind_at, IsOfClass, IsLogicVariable, IsProgramVariable, ActualFits, cell_in, cells_in}
 use Rattle.hoare_split.specs.Picking.{class_at, is_data, is_listed}
 use Rattle.hoare_split.specs.Calls.{handed_by, variable_in}
 use Rattle.hoare_split.proofs.FittingVariableLemmas.{same-var}

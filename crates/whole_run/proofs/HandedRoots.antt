@@ -16,28 +16,28 @@ use Rattle.store_core.specs.declared.value.Value.{Value}
 use Rattle.store_core.specs.declared.value.Value.TheVariants as value
 use Rattle.store_core.specs.Tables.{TypeEntry, VarEntry, var_at}
 use Rattle.store_core.specs.Stores.{StoreMap, IsLive, var_value, blank, var_class, VarFits, VarsFit, NamesLiveAlone}
-use Rattle.routing_expr.specs.declared.fault.Place.TheVariants as place
-use Rattle.routing_expr.specs.Walks.{DataAlone, IsParent, IsOfType, IsRoot, Chain, stay, go}
-use Rattle.routing_expr.specs.Regions.{IsPart, IsOn, IsApart}
-use Rattle.routing_expr.specs.WellFormed.{Names, IsDataVar, VarHoldsLive, HoldsOfType, SetHoldsLive, IsWellFormed}
-use Rattle.routing_expr.proofs.FittingLemmas.{IfSome-from, IfSome-at, IsSomeAnd-at}
-use Rattle.routing_expr.proofs.FreshLemmas.{IsFresh-well_formed}
-use Rattle.routing_laws.specs.Pieces.{value_on, piece_on}
-use Rattle.routing_laws.specs.Hanging.{NamesRoots, AreHeld}
-use Rattle.routing_laws.proofs.RegionLemmas.{part_apart, live_on, on_live, chain_on, leads_off}
-use Rattle.routing_laws.proofs.HangingLemmas.{no_parent, well_formed_hangs}
-use Rattle.routing_laws.proofs.PieceLemmas.{piece_on-IsOn}
-use Rattle.routing_laws.proofs.PieceForms.{fits_on, well_formed_on}
+use Rattle.store_core.proofs.FittingLemmas.{IfSome-from, IfSome-at, IsSomeAnd-at}
+use Rattle.routing_walks.specs.declared.fault.Place.TheVariants as place
+use Rattle.routing_walks.specs.Walks.{DataAlone, IsParent, IsOfType, IsRoot, Chain, stay, go}
+use Rattle.routing_walks.specs.Regions.{IsPart, IsOn, IsApart}
+use Rattle.routing_walks.specs.WellFormed.{Names, IsDataVar, VarHoldsLive, HoldsOfType, SetHoldsLive, IsWellFormed}
+use Rattle.routing_walks.proofs.FreshLemmas.{IsFresh-well_formed}
+use Rattle.routing_walks.specs.Pieces.{value_on, piece_on}
+use Rattle.routing_walks.specs.Hanging.{NamesRoots, AreHeld}
+use Rattle.routing_walks.proofs.RegionLemmas.{part_apart, live_on, on_live, chain_on, leads_off}
+use Rattle.routing_walks.proofs.HangingLemmas.{no_parent, well_formed_hangs}
+use Rattle.routing_walks.proofs.PieceLemmas.{piece_on-IsOn}
+use Rattle.routing_walks.proofs.PieceForms.{fits_on, well_formed_on}
 use Rattle.store_logic.specs.Terms.{null}
 use Rattle.store_exec.specs.Steps.{variable}
 use Rattle.pale_calls.specs.declared.actual.Actual.{Actual}
 use Rattle.pale_calls.specs.declared.actual.Actual.TheVariants as actual
 use Rattle.pale_calls.specs.declared.class.VarClass.TheVariants as class
 use Rattle.pale_calls.specs.Classes.{class_of, holds_cell, holds_truth, is_logic}
-use Rattle.pale_types.specs.declared.typed.CallParts.{CallParts}
-use Rattle.pale_types.specs.declared.typed.ProcEntry.{ProcEntry}
-use Rattle.pale_types.specs.Sights.{numbers}
-use Rattle.pale_types.specs.Fitting.{kind_at, IsLogicVariable, IsProgramVariable, ActualFits, cell_in, cells_in}
+use Rattle.pale_typed.specs.declared.typed.CallParts.{CallParts}
+use Rattle.pale_typed.specs.declared.typed.ProcEntry.{ProcEntry}
+use Rattle.pale_typed.specs.Variables.{numbers}
+use Rattle.pale_typed.specs.Fitting.{kind_at, IsLogicVariable, IsProgramVariable, ActualFits, cell_in, cells_in}
 use Rattle.hoare_split.specs.Picking.{class_at, is_data}
 use Rattle.hoare_split.specs.Calls.{handed_by}
 use Rattle.whole_run.specs.Handing.{handed_value, blank_at, handed_vars, handed_store}

@@ -16,14 +16,14 @@ use Rattle.store_core.specs.declared.value.Value.{Value}
 use Rattle.store_core.specs.declared.value.Value.TheVariants as value
 use Rattle.store_core.specs.Tables.{TypeEntry, VarEntry, var_at}
 use Rattle.store_core.specs.Stores.{StoreMap, IsLive, Fits, cell_of, var_value, blank, var_class}
-use Rattle.routing_expr.specs.declared.fault.Place.TheVariants as place
-use Rattle.routing_expr.specs.Walks.{IsParent, Chain, stay, go}
-use Rattle.routing_expr.specs.Regions.{has_number, store_on, IsReachedFrom, IsPart}
-use Rattle.routing_expr.specs.WellFormed.{Names, IsWellFormed}
-use Rattle.routing_expr.proofs.FittingLemmas.{IfSome-from, IfSome-at}
-use Rattle.routing_laws.specs.Pieces.{value_on}
-use Rattle.routing_laws.proofs.DecidedLemmas.{in_none, in_rest, in_cases}
-use Rattle.routing_laws.proofs.RegionLemmas.{number_in, in_number, store_on-IsOn, live_on}
+use Rattle.store_core.proofs.FittingLemmas.{IfSome-from, IfSome-at}
+use Rattle.routing_walks.specs.declared.fault.Place.TheVariants as place
+use Rattle.routing_walks.specs.Walks.{IsParent, Chain, stay, go}
+use Rattle.routing_walks.specs.Regions.{has_number, store_on, IsReachedFrom, IsPart}
+use Rattle.routing_walks.specs.WellFormed.{Names, IsWellFormed}
+use Rattle.routing_walks.specs.Pieces.{value_on}
+use Rattle.routing_walks.proofs.DecidedLemmas.{in_none, in_rest, in_cases}
+use Rattle.routing_walks.proofs.RegionLemmas.{number_in, in_number, store_on-IsOn, live_on}
 use Rattle.store_logic.specs.declared.assertion.Assertion.TheVariants as assertion
 use Rattle.store_logic.specs.declared.region.Region.TheVariants as region
 use Rattle.store_logic.specs.Terms.{null, outside, cell_in, live_value, set_in}
@@ -40,9 +40,9 @@ use Rattle.pale_calls.specs.declared.actual.Actual.{Actual}
 use Rattle.pale_calls.specs.declared.actual.Actual.TheVariants as actual
 use Rattle.pale_calls.specs.declared.class.VarClass.{VarClass}
 use Rattle.pale_calls.specs.Classes.{class_of, holds_cell, holds_truth, is_logic}
-use Rattle.pale_types.specs.declared.typed.CallParts.{CallParts}
-use Rattle.pale_types.specs.declared.typed.ProcEntry.{ProcEntry}
-use Rattle.pale_types.specs.Fitting.{kind_at, IsProgramVariable, ActualFits, CallFits, ProcFits}
+use Rattle.pale_typed.specs.declared.typed.CallParts.{CallParts}
+use Rattle.pale_typed.specs.declared.typed.ProcEntry.{ProcEntry}
+use Rattle.pale_typed.specs.Fitting.{kind_at, IsProgramVariable, ActualFits, CallFits, ProcFits}
 use Rattle.hoare_fill.specs.declared.putting.Put.{Put}
 use Rattle.hoare_split.specs.Picking.{is_listed, those, is_fresh}
 use Rattle.hoare_fill.specs.Putting.{beside, actual_for}

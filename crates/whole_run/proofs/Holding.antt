@@ -15,8 +15,8 @@ use Rattle.store_core.specs.declared.value.Value.{Value}
 use Rattle.store_core.specs.declared.value.Value.TheVariants as value
 use Rattle.store_core.specs.Tables.{TypeEntry, VarEntry, var_at}
 use Rattle.store_core.specs.Stores.{StoreMap, CellEntry, IsLive, cell_of}
-use Rattle.routing_expr.specs.Walks.{DataAndPointers, Walk, IsOfVariant}
-use Rattle.routing_expr.proofs.AloneLemmas.{Walk-same_cells}
+use Rattle.routing_walks.specs.Walks.{DataAndPointers, Walk, IsOfVariant}
+use Rattle.routing_walks.proofs.AloneLemmas.{Walk-same_cells}
 use Rattle.store_logic.specs.declared.term.Base.{Base}
 use Rattle.store_logic.specs.declared.term.Base.TheVariants as base
 use Rattle.store_logic.specs.declared.term.Term.{Term}
@@ -40,13 +40,13 @@ use Rattle.store_logic.proofs.ExpandingHolds.{chained, Holds-same}
 use Rattle.store_logic.proofs.ExpandingLists.{all-first, all-second}
 use Rattle.store_logic.proofs.ExpandingValues.{live_along}
 use Rattle.store_logic.proofs.SameLemmas.{both, itself, turned, not-both, and-both, or-both, then-both, iff-both, some-both, all-both, IsSomeAnd-both}
-use Rattle.pale_fitting.proofs.FitForms.{Fits-Truth, Fits-Is, Fits-Same, Fits-Member, Fits-Subset, Fits-Walk, Fits-Pred}
-use Rattle.pale_fitting.proofs.FitForms.{Fits-Not, Fits-And, Fits-Or, Fits-Imp, Fits-Iff, Fits-Ex, Fits-All, Fits-ExSet, Fits-AllSet}
-use Rattle.pale_fitting.proofs.ExpansionLemmas.{leads-of}
+use Rattle.claim_laws.proofs.FitForms.{Fits-Truth, Fits-Is, Fits-Same, Fits-Member, Fits-Subset, Fits-Walk, Fits-Pred}
+use Rattle.claim_laws.proofs.FitForms.{Fits-Not, Fits-And, Fits-Or, Fits-Imp, Fits-Iff, Fits-Ex, Fits-All, Fits-ExSet, Fits-AllSet}
+use Rattle.claim_laws.proofs.LeadLemmas.{leads-of}
 use Rattle.store_exec.specs.Steps.{variable}
 use Rattle.pale_calls.specs.declared.actual.Actual.{Actual}
 use Rattle.pale_calls.specs.declared.actual.Actual.TheVariants as actual
-use Rattle.pale_types.specs.Fitting.{NameMayBe, StatedFits}
+use Rattle.pale_typed.specs.Fitting.{NameMayBe, StatedFits}
 use Rattle.hoare_fill.specs.declared.putting.Put.{Put}
 use Rattle.hoare_fill.specs.Putting.{actual_for, filling_of, put_for, with_puts}
 

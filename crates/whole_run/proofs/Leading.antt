@@ -4,7 +4,7 @@ use Rattle.std.specs.List.{AllByRecursion}
 use Rattle.store_core.specs.declared.ids.VarId.{VarId}
 use Rattle.store_core.specs.Tables.{TypeEntry, VarEntry}
 use Rattle.store_core.specs.Stores.{StoreMap, Fits}
-use Rattle.routing_laws.proofs.DecidedStores.{part_of}
+use Rattle.routing_walks.proofs.DecidedStores.{part_of}
 use Rattle.store_logic.specs.declared.act.Act.{Act}
 use Rattle.store_exec.specs.declared.cause.Cause.{Cause}
 use Rattle.store_exec.specs.declared.code.Item.{Item}
@@ -27,12 +27,12 @@ use Rattle.store_ends.proofs.CutLemmas.{cut-settled}
 use Rattle.store_ends.proofs.EndLemmas.{code-leads}
 use Rattle.pale_calls.specs.declared.class.VarClass.{VarClass}
 use Rattle.pale_text.specs.declared.place.Pos.{Pos}
-use Rattle.pale_types.specs.declared.typed.CallParts.{CallParts}
-use Rattle.pale_types.specs.declared.typed.ProcEntry.{ProcEntry}
-use Rattle.pale_types.specs.declared.typed.Stmt.{Stmt, out-Stmt}
-use Rattle.pale_types.specs.declared.typed.Stmt.TheOpen.{Stmt-F}
-use Rattle.pale_types.specs.TypedPrograms.{TypedProgram}
-use Rattle.pale_types.specs.Fitting.{StatementFits, StatementFitsNode, ProgramFits}
+use Rattle.pale_typed.specs.declared.typed.CallParts.{CallParts}
+use Rattle.pale_typed.specs.declared.typed.ProcEntry.{ProcEntry}
+use Rattle.pale_typed.specs.declared.typed.Stmt.{Stmt, out-Stmt}
+use Rattle.pale_typed.specs.declared.typed.Stmt.TheOpen.{Stmt-F}
+use Rattle.pale_typed.specs.TypedPrograms.{TypedProgram}
+use Rattle.pale_typed.specs.Fitting.{StatementFits, StatementFitsNode, ProgramFits}
 use Rattle.hoare_split.specs.Picking.{those, is_awaited, is_left}
 use Rattle.hoare_split.specs.Settings.{settings}
 use Rattle.hoare_split.specs.Calls.{handed_by}

@@ -14,7 +14,7 @@ use Rattle.store_core.specs.declared.value.Value.TheVariants as value
 use Rattle.store_core.specs.Tables.{TypeEntry, VarEntry, var_at}
 use Rattle.store_core.specs.Stores.{StoreMap, CellEntry, IsLive, IsFresh, NamesBelow, cell_of, var_value}
 use Rattle.store_core.proofs.Bodies.{AllByRecursion-at}
-use Rattle.routing_expr.specs.Walks.{IsOfType}
+use Rattle.routing_walks.specs.Walks.{IsOfType}
 use Rattle.store_logic.specs.declared.act.Act.{Act}
 use Rattle.store_logic.specs.declared.act.Act.TheVariants as act
 use Rattle.store_logic.specs.Sorts.{Sort}
@@ -26,7 +26,7 @@ use Rattle.store_exec.specs.Frames.{WritesVar, Leave}
 use Rattle.store_exec.proofs.KeepLemmas.{place-of}
 use Rattle.store_exec.proofs.FrameSteps.{Alone, Step-goes}
 use Rattle.pale_calls.specs.Classes.{class_of, is_logic}
-use Rattle.pale_types.specs.Fitting.{IsLogicVariable}
+use Rattle.pale_typed.specs.Fitting.{IsLogicVariable}
 use Rattle.whole_run.specs.Leaving.{CameOf}
 use Rattle.whole_run.proofs.HandedStart.{variable_now}
 

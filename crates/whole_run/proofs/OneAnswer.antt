@@ -9,9 +9,9 @@ use Rattle.store_core.specs.declared.value.Value.{Value}
 use Rattle.store_core.specs.declared.value.Value.TheVariants as value
 use Rattle.store_core.specs.Tables.{TypeEntry, VarEntry}
 use Rattle.store_core.specs.Stores.{StoreMap}
-use Rattle.routing_expr.specs.Regions.{has_number, IsReachedFrom}
-use Rattle.routing_laws.specs.Pieces.{value_on}
-use Rattle.routing_laws.proofs.RegionLemmas.{number_in, in_number}
+use Rattle.routing_walks.specs.Regions.{has_number, IsReachedFrom}
+use Rattle.routing_walks.specs.Pieces.{value_on}
+use Rattle.routing_walks.proofs.RegionLemmas.{number_in, in_number}
 use Rattle.store_logic.specs.declared.act.Act.{Act}
 use Rattle.store_exec.specs.declared.cause.Cause.{Cause}
 use Rattle.store_exec.specs.declared.code.Item.{Item}
@@ -29,11 +29,11 @@ use Rattle.store_exec.proofs.OneEndLemmas.{Step-one, code-one}
 use Rattle.store_exec.proofs.OneCauseLemmas.{AtCut-one}
 use Rattle.pale_calls.specs.declared.actual.Actual.{Actual}
 use Rattle.pale_calls.specs.declared.actual.Actual.TheVariants as actual
-use Rattle.pale_types.specs.declared.typed.CallParts.{CallParts}
-use Rattle.pale_types.specs.declared.typed.ProcEntry.{ProcEntry}
-use Rattle.pale_types.specs.declared.typed.Stmt.{Stmt, out-Stmt}
-use Rattle.pale_types.specs.declared.typed.Stmt.TheOpen.{Stmt-F}
-use Rattle.pale_types.specs.TypedPrograms.{TypedProgram}
+use Rattle.pale_typed.specs.declared.typed.CallParts.{CallParts}
+use Rattle.pale_typed.specs.declared.typed.ProcEntry.{ProcEntry}
+use Rattle.pale_typed.specs.declared.typed.Stmt.{Stmt, out-Stmt}
+use Rattle.pale_typed.specs.declared.typed.Stmt.TheOpen.{Stmt-F}
+use Rattle.pale_typed.specs.TypedPrograms.{TypedProgram}
 use Rattle.hoare_split.specs.Calls.{handed_by}
 use Rattle.hoare_split.specs.Cuts.{plain_cut, call_cut}
 use Rattle.hoare_split.specs.Picking.{is_awaited, is_left}

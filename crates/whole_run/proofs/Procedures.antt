@@ -5,15 +5,15 @@ use Rattle.std.proofs.lemmas.Option.{slice_get_within, get_or_from_slice_get}
 use Rattle.store_core.specs.Tables.{TypeEntry}
 use Rattle.store_core.specs.Stores.{StoreMap}
 use Rattle.store_core.proofs.FreshLemmas.{AllByRecursion-from}
-use Rattle.routing_expr.proofs.FreshLemmas.{IsFresh-well_formed}
+use Rattle.routing_walks.proofs.FreshLemmas.{IsFresh-well_formed}
 use Rattle.store_logic.proofs.ExpandingLists.{all-first, all-second}
 use Rattle.store_exec.specs.declared.cause.Cause.{Cause}
 use Rattle.store_exec.specs.declared.triple.Triple.{Triple}
 use Rattle.store_exec.specs.Failing.{Meets, Fails}
 use Rattle.pale_text.specs.declared.place.Pos.{Pos}
-use Rattle.pale_types.specs.declared.typed.ProcEntry.{ProcEntry}
-use Rattle.pale_types.specs.TypedPrograms.{TypedProgram}
-use Rattle.pale_types.specs.Fitting.{ProcFits, ProgramFits}
+use Rattle.pale_typed.specs.declared.typed.ProcEntry.{ProcEntry}
+use Rattle.pale_typed.specs.TypedPrograms.{TypedProgram}
+use Rattle.pale_typed.specs.Fitting.{ProcFits, ProgramFits}
 use Rattle.hoare_split.specs.Flows.{arrivals_of}
 use Rattle.hoare_split.specs.Passages.{Started}
 use Rattle.hoare_split.specs.Starts.{entry_start}

@@ -28,10 +28,10 @@ use Rattle.pale_print_laws.specs.Words.{Word, AreWords, each, typed_words}
 use Rattle.pale_print_laws.specs.DeclarationWords.{field_form_words, field_words, fields_words, variant_words, type_words, predicate_parameter_words}
 use Rattle.pale_print_laws.specs.DeclarationWords.{predicate_words, parameter_words, results_words, logic_parameter_words, logics_words, local_words}
 use Rattle.pale_print_laws.specs.DeclarationWords.{procedure_words, declaration_words, program_words}
-use Rattle.pale_types.specs.declared.basis.Basis.{Basis}
-use Rattle.pale_types.specs.declared.typed.ProcEntry.{ProcEntry}
-use Rattle.pale_types.specs.Procedures.{frame_in, typed_procedure}
-use Rattle.pale_types.specs.Statements.{types_of, typed_block}
+use Rattle.pale_procedures.specs.declared.basis.Basis.{Basis}
+use Rattle.pale_typed.specs.declared.typed.ProcEntry.{ProcEntry}
+use Rattle.pale_procedures.specs.Procedures.{frame_in, typed_procedure}
+use Rattle.pale_procedures.specs.Statements.{types_of, typed_block}
 use Rattle.pale_types.specs.Programs.{as_procedure, types_in, predicates_in, procedures_in, basis_of, typed_list, typed_program}
 use Rattle.whole_run.specs.Places.{cut_places, PlacesAreDistinct}
 use Rattle.whole_run.proofs.Rising.{names_rise, rises_apart}

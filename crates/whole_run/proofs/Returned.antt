@@ -16,10 +16,10 @@ use Rattle.store_core.specs.declared.value.Value.{Value}
 use Rattle.store_core.specs.declared.value.Value.TheVariants as value
 use Rattle.store_core.specs.Tables.{TypeEntry, VarEntry, var_at}
 use Rattle.store_core.specs.Stores.{StoreMap, var_value, VarFits, Fits}
-use Rattle.routing_expr.specs.Regions.{IsPart}
-use Rattle.routing_expr.specs.WellFormed.{IsWellFormed}
-use Rattle.routing_expr.proofs.FittingLemmas.{IsSomeAnd-at}
-use Rattle.routing_laws.proofs.DecidedLemmas.{in_at}
+use Rattle.store_core.proofs.FittingLemmas.{IsSomeAnd-at}
+use Rattle.routing_walks.specs.Regions.{IsPart}
+use Rattle.routing_walks.specs.WellFormed.{IsWellFormed}
+use Rattle.routing_walks.proofs.DecidedLemmas.{in_at}
 use Rattle.store_logic.specs.Terms.{null}
 use Rattle.store_exec.specs.declared.cause.Cause.TheVariants as cause
 use Rattle.store_exec.specs.Steps.{variable}
@@ -29,9 +29,9 @@ use Rattle.store_exec.specs.Failing.{IsBlank}
 use Rattle.store_exec.proofs.RestrictedLemmas.{well_formed-at_cut}
 use Rattle.pale_calls.specs.declared.class.VarClass.{VarClass}
 use Rattle.pale_calls.specs.Classes.{class_of, holds_cell}
-use Rattle.pale_types.specs.declared.typed.CallParts.{CallParts}
-use Rattle.pale_types.specs.declared.typed.ProcEntry.{ProcEntry}
-use Rattle.pale_types.specs.Fitting.{kind_at, IsLike, CallFits, ProcFits}
+use Rattle.pale_typed.specs.declared.typed.CallParts.{CallParts}
+use Rattle.pale_typed.specs.declared.typed.ProcEntry.{ProcEntry}
+use Rattle.pale_typed.specs.Fitting.{kind_at, IsLike, CallFits, ProcFits}
 use Rattle.hoare_split.specs.Picking.{class_at, is_pointer, is_listed, is_argument, those, numbered, is_left, is_awaited, is_lent}
 use Rattle.hoare_split.specs.Calls.{handed_by}
 use Rattle.hoare_split.specs.Cuts.{call_cut, plain_cut}

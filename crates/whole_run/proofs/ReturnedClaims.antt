@@ -19,17 +19,17 @@ use Rattle.store_core.specs.declared.value.Value.TheVariants as value
 use Rattle.store_core.specs.Tables.{TypeEntry, VarEntry, var_at}
 use Rattle.store_core.specs.Stores.{StoreMap, CellEntry, IsLive, cell_of, var_value, VarFits, Fits}
 use Rattle.store_core.proofs.AboveLemmas.{live_below}
-use Rattle.routing_expr.specs.Walks.{IsOfType}
-use Rattle.routing_expr.specs.Searches.{Lists}
-use Rattle.routing_expr.specs.Regions.{has_number, store_on, IsPart, IsRest}
-use Rattle.routing_expr.specs.Reaching.{IsUnreached}
-use Rattle.routing_expr.specs.WellFormed.{SetHoldsLive, IsWellFormed}
-use Rattle.routing_expr.proofs.LiveLemmas.{IsOfType-live}
-use Rattle.routing_expr.proofs.FittingLemmas.{IfSome-at}
-use Rattle.routing_laws.specs.Pieces.{value_on}
-use Rattle.routing_laws.proofs.DecidedLemmas.{decided_in}
-use Rattle.routing_laws.proofs.DecidedWalks.{decided_same_cell}
-use Rattle.routing_laws.proofs.RegionLemmas.{store_on-IsOn, number_in, live_on}
+use Rattle.store_core.proofs.FittingLemmas.{IfSome-at}
+use Rattle.routing_walks.specs.Walks.{IsOfType}
+use Rattle.routing_walks.specs.Sets.{Lists}
+use Rattle.routing_walks.specs.Regions.{has_number, store_on, IsPart, IsRest}
+use Rattle.routing_walks.specs.Reaching.{IsUnreached}
+use Rattle.routing_walks.specs.WellFormed.{SetHoldsLive, IsWellFormed}
+use Rattle.routing_walks.proofs.LiveLemmas.{IsOfType-live}
+use Rattle.routing_walks.specs.Pieces.{value_on}
+use Rattle.routing_walks.proofs.DecidedLemmas.{decided_in}
+use Rattle.routing_walks.proofs.DecidedWalks.{decided_same_cell}
+use Rattle.routing_walks.proofs.RegionLemmas.{store_on-IsOn, number_in, live_on}
 use Rattle.store_logic.specs.Terms.{null, outside, cell_in, live_value, set_in}
 use Rattle.store_logic.specs.Satisfaction.{SatAll}
 use Rattle.store_logic.specs.Sorts.{Sort, var_sort}
@@ -39,9 +39,9 @@ use Rattle.store_exec.specs.Restricted.{live_part, restricted}
 use Rattle.pale_calls.specs.declared.actual.Actual.{Actual}
 use Rattle.pale_calls.specs.declared.actual.Actual.TheVariants as actual
 use Rattle.pale_calls.specs.Classes.{class_of, holds_cell, is_logic}
-use Rattle.pale_types.specs.declared.typed.CallParts.{CallParts}
-use Rattle.pale_types.specs.declared.typed.ProcEntry.{ProcEntry}
-use Rattle.pale_types.specs.Fitting.{kind_at, IsLogicVariable, IsProgramVariable}
+use Rattle.pale_typed.specs.declared.typed.CallParts.{CallParts}
+use Rattle.pale_typed.specs.declared.typed.ProcEntry.{ProcEntry}
+use Rattle.pale_typed.specs.Fitting.{kind_at, IsLogicVariable, IsProgramVariable}
 use Rattle.whole_run.proofs.Handed.{some_same, kind_entry, value_there}
 use Rattle.whole_run.proofs.HandedStart.{left_in, kept_in}
 use Rattle.whole_run.proofs.Holding.{Alike}

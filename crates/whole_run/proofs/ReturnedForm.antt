@@ -23,24 +23,24 @@ use Rattle.store_core.specs.Stores.{StoreMap, CellEntry, IsLive, cell_of, field_
 use Rattle.store_core.specs.Stores.{NamesLiveAlone, NamesNoDead}
 use Rattle.store_core.proofs.AboveLemmas.{live_below, IsAbove-from}
 use Rattle.store_laws.proofs.KeepingLemmas.{NamesSuch, CellFits-kept}
-use Rattle.routing_expr.specs.Walks.{IsOfType}
-use Rattle.routing_expr.specs.Regions.{IsPart}
-use Rattle.routing_expr.specs.WellFormed.{VarHoldsLive, SetHoldsLive, IsWellFormed}
-use Rattle.routing_expr.proofs.LiveLemmas.{IsOfType-live}
-use Rattle.routing_expr.proofs.FittingLemmas.{IfSome-from, IfSome-at}
-use Rattle.routing_expr.proofs.FreshLemmas.{IsFresh-well_formed}
-use Rattle.routing_laws.proofs.DecidedLemmas.{decided_in, decided_there}
-use Rattle.routing_laws.proofs.DecidedWalks.{decided_same_cell}
-use Rattle.routing_laws.specs.Hanging.{IsTogether}
+use Rattle.store_core.proofs.FittingLemmas.{IfSome-from, IfSome-at}
+use Rattle.routing_walks.specs.Walks.{IsOfType}
+use Rattle.routing_walks.specs.Regions.{IsPart}
+use Rattle.routing_walks.specs.WellFormed.{VarHoldsLive, SetHoldsLive, IsWellFormed}
+use Rattle.routing_walks.proofs.LiveLemmas.{IsOfType-live}
+use Rattle.routing_walks.proofs.FreshLemmas.{IsFresh-well_formed}
+use Rattle.routing_walks.proofs.DecidedLemmas.{decided_in, decided_there}
+use Rattle.routing_walks.proofs.DecidedWalks.{decided_same_cell}
+use Rattle.routing_walks.specs.Hanging.{IsTogether}
 use Rattle.store_logic.specs.Terms.{null}
 use Rattle.store_exec.specs.Steps.{variable}
 use Rattle.store_exec.specs.Restricted.{restricted}
 use Rattle.store_exec.proofs.RestrictedLemmas.{restricted-well_formed}
 use Rattle.pale_calls.specs.Classes.{class_of, holds_cell}
-use Rattle.pale_types.specs.declared.typed.CallParts.{CallParts}
-use Rattle.pale_types.specs.declared.typed.ProcEntry.{ProcEntry}
-use Rattle.pale_types.specs.Sights.{numbers}
-use Rattle.pale_types.specs.Fitting.{kind_at, IsLike}
+use Rattle.pale_typed.specs.declared.typed.CallParts.{CallParts}
+use Rattle.pale_typed.specs.declared.typed.ProcEntry.{ProcEntry}
+use Rattle.pale_typed.specs.Variables.{numbers}
+use Rattle.pale_typed.specs.Fitting.{kind_at, IsLike}
 use Rattle.hoare_split.specs.Picking.{class_at, is_pointer, is_listed, is_argument, is_spent, numbered}
 use Rattle.hoare_split.specs.Calls.{handed_by}
 use Rattle.whole_run.specs.Handing.{rest_store, value_after, beside_rest}

@@ -15,16 +15,16 @@ use Rattle.store_core.specs.declared.value.Value.TheVariants as value
 use Rattle.store_core.specs.Tables.{TypeEntry, VarEntry, var_at}
 use Rattle.store_core.specs.Stores.{StoreMap, CellEntry, IsLive, cell_of, var_value, VarFits, Fits}
 use Rattle.store_core.proofs.AboveLemmas.{live_below}
-use Rattle.routing_expr.specs.Searches.{Lists}
-use Rattle.routing_expr.specs.Regions.{store_on, IsReachedFrom, IsPart, IsRest}
-use Rattle.routing_expr.specs.Reaching.{IsUnreached}
-use Rattle.routing_expr.specs.WellFormed.{SetHoldsLive, IsWellFormed}
-use Rattle.routing_expr.proofs.FittingLemmas.{IfSome-at}
-use Rattle.routing_laws.specs.Pieces.{piece_on}
-use Rattle.routing_laws.proofs.DecidedLemmas.{decided_in, in_at}
-use Rattle.routing_laws.proofs.DecidedWalks.{decided_same_cell}
-use Rattle.routing_laws.proofs.PieceLemmas.{piece_on-IsOn}
-use Rattle.routing_laws.proofs.RegionLemmas.{store_on-IsOn, live_on}
+use Rattle.store_core.proofs.FittingLemmas.{IfSome-at}
+use Rattle.routing_walks.specs.Sets.{Lists}
+use Rattle.routing_walks.specs.Regions.{store_on, IsReachedFrom, IsPart, IsRest}
+use Rattle.routing_walks.specs.Reaching.{IsUnreached}
+use Rattle.routing_walks.specs.WellFormed.{SetHoldsLive, IsWellFormed}
+use Rattle.routing_walks.specs.Pieces.{piece_on}
+use Rattle.routing_walks.proofs.DecidedLemmas.{decided_in, in_at}
+use Rattle.routing_walks.proofs.DecidedWalks.{decided_same_cell}
+use Rattle.routing_walks.proofs.PieceLemmas.{piece_on-IsOn}
+use Rattle.routing_walks.proofs.RegionLemmas.{store_on-IsOn, live_on}
 use Rattle.store_logic.specs.declared.assertion.Assertion.{Assertion}
 use Rattle.store_logic.specs.declared.assertion.Assertion.TheVariants as assertion
 use Rattle.store_logic.specs.declared.region.Region.TheVariants as region
@@ -39,10 +39,10 @@ use Rattle.store_exec.specs.Failing.{StartHolds}
 use Rattle.pale_calls.specs.declared.actual.Actual.{Actual}
 use Rattle.pale_calls.specs.declared.actual.Actual.TheVariants as actual
 use Rattle.pale_calls.specs.Classes.{class_of, holds_cell, holds_truth, is_logic}
-use Rattle.pale_types.specs.declared.typed.CallParts.{CallParts}
-use Rattle.pale_types.specs.declared.typed.ProcEntry.{ProcEntry}
-use Rattle.pale_types.specs.Fitting.{kind_at, IsOfClass, IsLogicVariable, IsProgramVariable, IsLike, ActualFits, IsUntouched, CallFits, ProcFits}
-use Rattle.pale_types.specs.Fitting.{cell_in, cells_in}
+use Rattle.pale_typed.specs.declared.typed.CallParts.{CallParts}
+use Rattle.pale_typed.specs.declared.typed.ProcEntry.{ProcEntry}
+use Rattle.pale_typed.specs.Fitting.{kind_at, IsOfClass, IsLogicVariable, IsProgramVariable, IsLike, ActualFits, IsUntouched, CallFits, ProcFits}
+use Rattle.pale_typed.specs.Fitting.{cell_in, cells_in}
 use Rattle.hoare_split.specs.Picking.{class_at, is_pointer, is_listed, is_argument, is_spent, those, is_left, is_awaited}
 use Rattle.hoare_fill.specs.Putting.{beside, actual_for}
 use Rattle.hoare_split.specs.Calls.{handed_by, returned_by, post_for, post_of, on_all, on_part_and_rest, pre_of}

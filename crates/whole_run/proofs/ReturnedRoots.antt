@@ -18,23 +18,23 @@ use Rattle.store_core.specs.declared.value.Value.TheVariants as value
 use Rattle.store_core.specs.Tables.{TypeEntry, VarEntry, var_at}
 use Rattle.store_core.specs.Stores.{StoreMap, CellEntry, IsLive, cell_of, field_of, field_value, var_value, NamesLiveAlone}
 use Rattle.store_core.proofs.AboveLemmas.{live_below}
-use Rattle.routing_expr.specs.declared.fault.Place.TheVariants as place
-use Rattle.routing_expr.specs.Walks.{DataAlone, Leads, IsParent, IsOfType, IsRoot, Chain, stay, go}
-use Rattle.routing_expr.specs.Regions.{IsPart, IsRest, IsApart}
-use Rattle.routing_expr.specs.WellFormed.{Names, IsDataVar, VarHoldsLive, HoldsOfType, IsWellFormed}
-use Rattle.routing_expr.specs.CutFaults.{IsSound}
-use Rattle.routing_expr.proofs.LiveLemmas.{IsOfType-live, Leads-live}
-use Rattle.routing_expr.proofs.FittingLemmas.{IfSome-from, IfSome-at, IsSomeAnd-at}
-use Rattle.routing_expr.proofs.FreshLemmas.{IsFresh-well_formed}
-use Rattle.routing_laws.specs.Pieces.{value_on, piece_on}
-use Rattle.routing_laws.specs.Hanging.{NamesRoots, IsTogether}
-use Rattle.routing_laws.proofs.DecidedLemmas.{in_first, in_rest}
-use Rattle.routing_laws.proofs.DecidedStores.{rest_of}
-use Rattle.routing_laws.proofs.RegionLemmas.{part_apart, rest_apart, leads_off}
-use Rattle.routing_laws.proofs.HangingLemmas.{no_parent}
-use Rattle.routing_laws.proofs.PieceLemmas.{piece_on-IsOn, var_on}
-use Rattle.routing_laws.proofs.PieceForms.{well_formed_on}
-use Rattle.routing_laws.proofs.TogetherLemmas.{leads_from, sound_together}
+use Rattle.store_core.proofs.FittingLemmas.{IfSome-from, IfSome-at, IsSomeAnd-at}
+use Rattle.routing_walks.specs.declared.fault.Place.TheVariants as place
+use Rattle.routing_walks.specs.Walks.{DataAlone, Leads, IsParent, IsOfType, IsRoot, Chain, stay, go}
+use Rattle.routing_walks.specs.Regions.{IsPart, IsRest, IsApart}
+use Rattle.routing_walks.specs.WellFormed.{Names, IsDataVar, VarHoldsLive, HoldsOfType, IsWellFormed}
+use Rattle.routing_walks.specs.CutFaults.{IsSound}
+use Rattle.routing_walks.proofs.LiveLemmas.{IsOfType-live, Leads-live}
+use Rattle.routing_walks.proofs.FreshLemmas.{IsFresh-well_formed}
+use Rattle.routing_walks.specs.Pieces.{value_on, piece_on}
+use Rattle.routing_walks.specs.Hanging.{NamesRoots, IsTogether}
+use Rattle.routing_walks.proofs.DecidedLemmas.{in_first, in_rest}
+use Rattle.routing_walks.proofs.DecidedStores.{rest_of}
+use Rattle.routing_walks.proofs.RegionLemmas.{part_apart, rest_apart, leads_off}
+use Rattle.routing_walks.proofs.HangingLemmas.{no_parent}
+use Rattle.routing_walks.proofs.PieceLemmas.{piece_on-IsOn, var_on}
+use Rattle.routing_walks.proofs.PieceForms.{well_formed_on}
+use Rattle.routing_walks.proofs.TogetherLemmas.{leads_from, sound_together}
 use Rattle.store_logic.specs.Terms.{null}
 use Rattle.store_logic.proofs.ExpandingLists.{slice_get-first, slice_get-later}
 use Rattle.store_exec.specs.Steps.{variable}
@@ -42,10 +42,10 @@ use Rattle.pale_calls.specs.declared.actual.Actual.{Actual}
 use Rattle.pale_calls.specs.declared.actual.Actual.TheVariants as actual
 use Rattle.pale_calls.specs.declared.class.VarClass.TheVariants as class
 use Rattle.pale_calls.specs.Classes.{class_of, holds_cell}
-use Rattle.pale_types.specs.declared.typed.CallParts.{CallParts}
-use Rattle.pale_types.specs.declared.typed.ProcEntry.{ProcEntry}
-use Rattle.pale_types.specs.Sights.{numbers}
-use Rattle.pale_types.specs.Fitting.{kind_at, IsLike}
+use Rattle.pale_typed.specs.declared.typed.CallParts.{CallParts}
+use Rattle.pale_typed.specs.declared.typed.ProcEntry.{ProcEntry}
+use Rattle.pale_typed.specs.Variables.{numbers}
+use Rattle.pale_typed.specs.Fitting.{kind_at, IsLike}
 use Rattle.hoare_split.specs.Picking.{class_at, is_data, is_pointer, is_listed, is_argument, is_spent}
 use Rattle.hoare_split.specs.Calls.{handed_by}
 use Rattle.hoare_split.proofs.FittingVariableLemmas.{same-var}

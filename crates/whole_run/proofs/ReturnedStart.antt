@@ -21,19 +21,19 @@ use Rattle.store_core.specs.declared.value.Value.{Value}
 use Rattle.store_core.specs.declared.value.Value.TheVariants as value
 use Rattle.store_core.specs.Tables.{TypeEntry, VarEntry, var_at}
 use Rattle.store_core.specs.Stores.{StoreMap, CellEntry, IsLive, cell_of, var_value, NamesLiveAlone}
-use Rattle.routing_expr.specs.declared.fault.Place.TheVariants as place
-use Rattle.routing_expr.specs.Walks.{DataAlone, IsParent, Chain, stay, go}
-use Rattle.routing_expr.specs.Searches.{Lists}
-use Rattle.routing_expr.specs.Regions.{store_on, IsReachedFrom, IsPart, IsRest}
-use Rattle.routing_expr.specs.Reaching.{IsUnreached}
-use Rattle.routing_expr.specs.WellFormed.{Names, IsDataVar, IsWellFormed}
-use Rattle.routing_expr.proofs.LiveLemmas.{Chain-live, IsParent-live}
-use Rattle.routing_expr.proofs.FittingLemmas.{IfSome-at, IsSomeAnd-at}
-use Rattle.routing_expr.proofs.FreshLemmas.{IsFresh-well_formed}
-use Rattle.routing_laws.specs.Hanging.{IsTogether}
-use Rattle.routing_laws.proofs.DecidedLemmas.{decided_in, decided_there, in_at}
-use Rattle.routing_laws.proofs.DecidedWalks.{decided_same_cell, listed}
-use Rattle.routing_laws.proofs.RegionLemmas.{store_on-IsOn}
+use Rattle.store_core.proofs.FittingLemmas.{IfSome-at, IsSomeAnd-at}
+use Rattle.routing_walks.specs.declared.fault.Place.TheVariants as place
+use Rattle.routing_walks.specs.Walks.{DataAlone, IsParent, Chain, stay, go}
+use Rattle.routing_walks.specs.Sets.{Lists}
+use Rattle.routing_walks.specs.Regions.{store_on, IsReachedFrom, IsPart, IsRest}
+use Rattle.routing_walks.specs.Reaching.{IsUnreached}
+use Rattle.routing_walks.specs.WellFormed.{Names, IsDataVar, IsWellFormed}
+use Rattle.routing_walks.proofs.LiveLemmas.{Chain-live, IsParent-live}
+use Rattle.routing_walks.proofs.FreshLemmas.{IsFresh-well_formed}
+use Rattle.routing_walks.specs.Hanging.{IsTogether}
+use Rattle.routing_walks.proofs.DecidedLemmas.{decided_in, decided_there, in_at}
+use Rattle.routing_walks.proofs.DecidedWalks.{decided_same_cell, listed}
+use Rattle.routing_walks.proofs.RegionLemmas.{store_on-IsOn}
 use Rattle.store_logic.specs.Terms.{null}
 use Rattle.store_exec.specs.Steps.{variable}
 use Rattle.store_exec.specs.Restricted.{live_part, restricted}
@@ -41,10 +41,10 @@ use Rattle.store_exec.specs.Cuts.{IsPointerVar, PointsTo, Escapes}
 use Rattle.store_exec.specs.Failing.{IsBlank}
 use Rattle.pale_calls.specs.declared.class.VarClass.TheVariants as class
 use Rattle.pale_calls.specs.Classes.{class_of, holds_cell}
-use Rattle.pale_types.specs.declared.typed.CallParts.{CallParts}
-use Rattle.pale_types.specs.declared.typed.ProcEntry.{ProcEntry}
-use Rattle.pale_types.specs.Sights.{numbers}
-use Rattle.pale_types.specs.Fitting.{kind_at, IsLike}
+use Rattle.pale_typed.specs.declared.typed.CallParts.{CallParts}
+use Rattle.pale_typed.specs.declared.typed.ProcEntry.{ProcEntry}
+use Rattle.pale_typed.specs.Variables.{numbers}
+use Rattle.pale_typed.specs.Fitting.{kind_at, IsLike}
 use Rattle.hoare_split.specs.Picking.{class_at, is_data, is_pointer, is_listed, is_argument, is_spent, is_gained, those}
 use Rattle.hoare_split.specs.Calls.{handed_by, returned_by}
 use Rattle.hoare_split.proofs.FittingVariableLemmas.{those-all, contained-listed}

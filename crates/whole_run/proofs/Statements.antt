@@ -19,14 +19,14 @@ use Rattle.pale_print_laws.specs.ConditionWords.{condition_words}
 use Rattle.pale_print_laws.specs.StatementWords.{truth_word, argument_words, new_variant_words, value_words, value_place, clause_words}
 use Rattle.pale_print_laws.specs.StatementWords.{call_result_words, logic_argument_words, given_words}
 use Rattle.pale_print_laws.specs.StatementWords.{block_words, else_words, statement_node, statement_words}
-use Rattle.pale_types.specs.declared.typed.Stmt.{Stmt, roll-Stmt}
-use Rattle.pale_types.specs.declared.typed.Stmt.TheVariants as stmt
-use Rattle.pale_types.specs.declared.typed.Stmt.TheOpen.{Stmt-F}
-use Rattle.pale_types.specs.declared.typed.Stmt.TheFolds.{map-Stmt, fold-roll-Stmt}
-use Rattle.pale_types.specs.declared.basis.Basis.{Basis}
+use Rattle.pale_typed.specs.declared.typed.Stmt.{Stmt, roll-Stmt}
+use Rattle.pale_typed.specs.declared.typed.Stmt.TheVariants as stmt
+use Rattle.pale_typed.specs.declared.typed.Stmt.TheOpen.{Stmt-F}
+use Rattle.pale_typed.specs.declared.typed.Stmt.TheFolds.{map-Stmt, fold-roll-Stmt}
+use Rattle.pale_procedures.specs.declared.basis.Basis.{Basis}
 use Rattle.pale_sights.specs.declared.sights.Frame.{Frame}
-use Rattle.pale_types.specs.Statements.{typing_rules, typed_statement, typed_block}
-use Rattle.pale_types.proofs.StatementLemmas.{typed_form}
+use Rattle.pale_procedures.specs.Statements.{typing_rules, typed_statement, typed_block}
+use Rattle.pale_procedures.proofs.StatementLemmas.{typed_form}
 use Rattle.whole_run.specs.Places.{places_in, cut_places}
 use Rattle.whole_run.proofs.Occurring.{Occur, here, ArePassed, one_passed, separated_passed}
 use Rattle.whole_run.proofs.Forms.{sign_passed, word_passed, word_at_passed, name_passed, path_passed, condition_passed, bracketed_passed}

@@ -6,7 +6,7 @@ use Rattle.store_core.specs.declared.ids.VarId.{VarId}
 use Rattle.store_core.specs.declared.value.Value.{Value}
 use Rattle.store_core.specs.Tables.{VarEntry}
 use Rattle.store_core.specs.Stores.{StoreMap, VarFits, VarsFit}
-use Rattle.pale_types.specs.Sights.{numbers}
+use Rattle.pale_typed.specs.Variables.{numbers}
 
 module _ {A B : Type 0} (R : A → B → Type 0) where
   pub zip_as : (S : A → B → Type 0) → ((x : A) (u : B) → R x u → S x u) → (xs : List A) (us : List B) → AllZip R xs us → AllZip S xs us

@@ -9,15 +9,15 @@ use Rattle.store_core.specs.declared.value.Value.{Value}
 use Rattle.store_core.specs.declared.value.Value.TheVariants as value
 use Rattle.store_core.specs.Tables.{VarEntry, var_at}
 use Rattle.store_core.specs.Stores.{StoreMap, var_class, blank}
-use Rattle.routing_expr.specs.Regions.{has_number}
-use Rattle.routing_laws.specs.Pieces.{value_on}
+use Rattle.routing_walks.specs.Regions.{has_number}
+use Rattle.routing_walks.specs.Pieces.{value_on}
 use Rattle.store_logic.specs.Terms.{null}
 use Rattle.store_exec.specs.Steps.{variable}
 use Rattle.store_exec.specs.Restricted.{restricted}
 use Rattle.pale_calls.specs.declared.actual.Actual.{Actual}
 use Rattle.pale_calls.specs.declared.actual.Actual.TheVariants as actual
-use Rattle.pale_types.specs.declared.typed.CallParts.{CallParts}
-use Rattle.pale_types.specs.declared.typed.ProcEntry.{ProcEntry}
+use Rattle.pale_typed.specs.declared.typed.CallParts.{CallParts}
+use Rattle.pale_typed.specs.declared.typed.ProcEntry.{ProcEntry}
 use Rattle.hoare_split.specs.Picking.{class_at, numbered, is_spent}
 
 -- ---- before the callee runs

@@ -5,7 +5,7 @@ use Rattle.store_core.specs.declared.ids.TypeId.{TypeId}
 use Rattle.store_core.specs.declared.ids.VarId.{VarId}
 use Rattle.store_core.specs.declared.ids.CellId.{CellId}
 use Rattle.store_core.specs.Stores.{StoreMap, IsLive, var_value}
-use Rattle.routing_expr.specs.Walks.{IsOfType}
+use Rattle.routing_walks.specs.Walks.{IsOfType}
 use Rattle.store_exec.specs.Steps.{variable}
 use Rattle.store_exec.specs.Restricted.{live_part}
 use Rattle.store_exec.specs.Failing.{IsBlank}

@@ -1,8 +1,8 @@
 -- Whole runs: a procedure of a program runs on a store for at most so many steps.
 use Rattle.std.specs.Prelude.{◌≡◌, ℕ, zero, suc, [], ◌∷◌, Some, slice_get}
 use Rattle.store_core.specs.Stores.{StoreMap}
-use Rattle.pale_types.specs.declared.typed.ProcEntry.{ProcEntry}
-use Rattle.pale_types.specs.TypedPrograms.{TypedProgram}
+use Rattle.pale_typed.specs.declared.typed.ProcEntry.{ProcEntry}
+use Rattle.pale_typed.specs.TypedPrograms.{TypedProgram}
 use Rattle.whole_run.specs.States.{State, runs, exited, Turn, goes, fails, Answer, Running, Fail, Exit}
 use Rattle.whole_run.specs.Turns.{Takes, Returns}
 

@@ -4,8 +4,8 @@ use Rattle.store_core.specs.Stores.{StoreMap}
 use Rattle.store_exec.specs.declared.cause.Cause.{Cause}
 use Rattle.store_exec.specs.declared.triple.Triple.{Triple}
 use Rattle.store_exec.specs.Failing.{Meets, Fails}
-use Rattle.pale_types.specs.declared.typed.ProcEntry.{ProcEntry}
-use Rattle.pale_types.specs.TypedPrograms.{TypedProgram}
+use Rattle.pale_typed.specs.declared.typed.ProcEntry.{ProcEntry}
+use Rattle.pale_typed.specs.TypedPrograms.{TypedProgram}
 use Rattle.hoare_split.specs.Triples.{starts_of, triple_of, triples_of}
 
 -- no store that meets a triple of the program fails

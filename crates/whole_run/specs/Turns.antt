@@ -4,7 +4,7 @@ use Rattle.std.specs.Prelude.{◌≡◌, ◌⊎◌, ℕ, Bool, List, [], ◌∷�
 use Rattle.store_core.specs.declared.ids.CellId.{CellId}
 use Rattle.store_core.specs.Tables.{TypeEntry, VarEntry}
 use Rattle.store_core.specs.Stores.{StoreMap}
-use Rattle.routing_expr.specs.Regions.{IsPart}
+use Rattle.routing_walks.specs.Regions.{IsPart}
 use Rattle.store_logic.specs.declared.assertion.Assertion.{Assertion}
 use Rattle.store_logic.specs.declared.cond.Cond.{Cond}
 use Rattle.store_exec.specs.declared.cause.Cause.{Cause}
@@ -15,12 +15,12 @@ use Rattle.store_exec.specs.Runs.{Ending, Does, RunsItems}
 use Rattle.store_exec.specs.Cuts.{AtCut}
 use Rattle.store_exec.specs.Restricted.{restricted}
 use Rattle.pale_text.specs.declared.place.Pos.{Pos}
-use Rattle.pale_types.specs.declared.typed.CallParts.{CallParts}
-use Rattle.pale_types.specs.declared.typed.ProcEntry.{ProcEntry}
-use Rattle.pale_types.specs.declared.typed.Stmt.{Stmt, out-Stmt}
-use Rattle.pale_types.specs.declared.typed.Stmt.TheVariants as stmt
-use Rattle.pale_types.specs.declared.typed.Stmt.TheOpen.{Stmt-F}
-use Rattle.pale_types.specs.TypedPrograms.{TypedProgram}
+use Rattle.pale_typed.specs.declared.typed.CallParts.{CallParts}
+use Rattle.pale_typed.specs.declared.typed.ProcEntry.{ProcEntry}
+use Rattle.pale_typed.specs.declared.typed.Stmt.{Stmt, out-Stmt}
+use Rattle.pale_typed.specs.declared.typed.Stmt.TheVariants as stmt
+use Rattle.pale_typed.specs.declared.typed.Stmt.TheOpen.{Stmt-F}
+use Rattle.pale_typed.specs.TypedPrograms.{TypedProgram}
 use Rattle.hoare_split.specs.Picking.{is_awaited, is_left}
 use Rattle.hoare_split.specs.Settings.{settings}
 use Rattle.hoare_split.specs.Calls.{handed_by}

@@ -2,14 +2,14 @@
 
 ghost use Rattle.std.specs.Prelude.{◌≡◌, ℕ, Some, slice_get};
 ghost use Rattle.store_core.specs.Stores.{StoreMap, Fits, IsFresh};
-ghost use Rattle.pale_types.specs.declared.typed.ProcEntry.{ProcEntry};
-ghost use Rattle.pale_types.specs.TypedPrograms.{TypedProgram};
-ghost use Rattle.pale_types.specs.Fitting.{ProgramFits};
+ghost use Rattle.pale_typed.specs.declared.typed.ProcEntry.{ProcEntry};
+ghost use Rattle.pale_typed.specs.TypedPrograms.{TypedProgram};
+ghost use Rattle.pale_typed.specs.Fitting.{ProgramFits};
 ghost use Rattle.whole_run.specs.States.{Answer};
 ghost use Rattle.whole_run.specs.Runs.{WholeRun};
 
 use crate::{handed_stores_meet_the_entry, returned_stores_are_well_formed};
-use pale_types::claims_with_actuals_put_in_fit;
+use claim_laws::claims_with_actuals_put_in_fit;
 
 /// A program that fits has an answer for each of its procedures, each store that fits the procedure's variables and is fresh, and each
 /// number of steps. It needs no triple to be valid, nor the store to be well-formed or to meet `pre`.

@@ -2,7 +2,7 @@
 
 ghost use Rattle.std.specs.Prelude.{◌≡◌, ℕ};
 ghost use Rattle.store_core.specs.Stores.{StoreMap};
-ghost use Rattle.pale_types.specs.TypedPrograms.{TypedProgram};
+ghost use Rattle.pale_typed.specs.TypedPrograms.{TypedProgram};
 ghost use Rattle.whole_run.specs.States.{Answer, Running};
 ghost use Rattle.whole_run.specs.Runs.{WholeRun};
 

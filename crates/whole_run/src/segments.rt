@@ -2,9 +2,9 @@
 
 ghost use Rattle.std.specs.Prelude.{◌≡◌, ◌⊎◌, ℕ, List};
 ghost use Rattle.store_core.specs.Stores.{StoreMap};
-ghost use Rattle.pale_types.specs.declared.typed.ProcEntry.{ProcEntry};
-ghost use Rattle.pale_types.specs.declared.typed.Stmt.{Stmt};
-ghost use Rattle.pale_types.specs.TypedPrograms.{TypedProgram};
+ghost use Rattle.pale_typed.specs.declared.typed.ProcEntry.{ProcEntry};
+ghost use Rattle.pale_typed.specs.declared.typed.Stmt.{Stmt};
+ghost use Rattle.pale_typed.specs.TypedPrograms.{TypedProgram};
 ghost use Rattle.whole_run.specs.States.{Waiting, Turn, Answer, Running};
 ghost use Rattle.whole_run.specs.Turns.{on_with};
 ghost use Rattle.whole_run.specs.Runs.{EndsBy, Ends};

@@ -17,14 +17,14 @@ use Rattle.store_core.specs.declared.value.Value.TheVariants as value
 use Rattle.store_core.specs.Tables.{TypeEntry, VarEntry, FieldEntry, field_at, var_at, fields_of}
 use Rattle.store_core.specs.Stores.{StoreMap, CellEntry, IsLive, cell_of, field_of, field_value, var_value, FieldFits, SlotsFit, CellFits}
 use Rattle.store_core.proofs.FittingLemmas.{IfSome-from, IfSome-at, same_type}
-use Rattle.routing_expr.specs.declared.fault.Place.{Place}
-use Rattle.routing_expr.specs.declared.fault.Place.TheVariants as place
-use Rattle.routing_expr.specs.Walks.{DataAlone, IsFollowed, Leads, IsParent, IsOfVariant, Chain}
-use Rattle.routing_expr.specs.Destinations.{EndsKind, Dest, IsPointer}
-use Rattle.routing_expr.specs.WellFormed.{Names, HoldsOfType, VarHoldsLive, FieldHoldsLive, IsBackbone}
-use Rattle.routing_expr.proofs.LiveLemmas.{Leads-live, Walk-live, IsParent-live, Chain-live}
-use Rattle.routing_expr.proofs.MatchLemmas.{Matches, Walk-match, Chain-matched, parent_down}
-use Rattle.routing_laws.specs.Paths.{LeadsAlong, StandsAt}
+use Rattle.routing_walks.specs.declared.fault.Place.{Place}
+use Rattle.routing_walks.specs.declared.fault.Place.TheVariants as place
+use Rattle.routing_walks.specs.Walks.{DataAlone, IsFollowed, Leads, IsParent, IsOfVariant, Chain}
+use Rattle.routing_walks.specs.Destinations.{EndsKind, Dest, IsPointer}
+use Rattle.routing_walks.specs.WellFormed.{Names, HoldsOfType, VarHoldsLive, FieldHoldsLive, IsBackbone}
+use Rattle.routing_walks.proofs.LiveLemmas.{Leads-live, Walk-live, IsParent-live, Chain-live}
+use Rattle.routing_walks.proofs.MatchLemmas.{Matches, Walk-match, Chain-matched, parent_down}
+use Rattle.routing_walks.specs.Paths.{LeadsAlong, StandsAt}
 use Rattle.witness_store.specs.Pointers.{IsPointerField, DoCellsFit, IsSameButPointers, AreAlike}
 
 -- ---- the kinds of fields

@@ -12,10 +12,10 @@ use Rattle.store_core.specs.declared.value.Value.{Value}
 use Rattle.store_core.specs.declared.value.Value.TheVariants as value
 use Rattle.store_core.specs.Tables.{TypeEntry, FieldEntry, fields_of, field_at}
 use Rattle.store_core.specs.Stores.{StoreMap, CellEntry, cell_of, field_value, set_field}
-use Rattle.routing_expr.specs.Destinations.{Dest, IsPointer}
-use Rattle.routing_expr.specs.Gathering.{Gathers, Before, HasAll}
-use Rattle.routing_expr.proofs.GatheringLemmas.{Gathers-none, Gathers-start, Gathers-next, Gathers-push, Gathers-alike, HasAll-gathered, HasAll-alike}
-use Rattle.routing_laws.proofs.DecidedStores.{dests}
+use Rattle.routing_walks.specs.Destinations.{Dest, IsPointer}
+use Rattle.routing_walks.specs.Gathering.{Gathers, Before, HasAll}
+use Rattle.routing_walks.proofs.GatheringLemmas.{Gathers-none, Gathers-start, Gathers-next, Gathers-push, Gathers-alike, HasAll-gathered, HasAll-alike}
+use Rattle.routing_walks.proofs.DecidedStores.{dests}
 use Rattle.witness_store.specs.declared.finding.Pointing.{Pointing}
 use Rattle.witness_store.specs.Pointers.{IsPointerField, DoCellsFit}
 use Rattle.witness_store.specs.PointerFinding.{IsPointing}

@@ -17,13 +17,13 @@ use Rattle.store_core.specs.declared.value.Value.{Value}
 use Rattle.store_core.specs.CellLists.{AreRising}
 use Rattle.store_core.specs.Tables.{TypeEntry, FieldEntry, field_at, fields_of}
 use Rattle.store_core.specs.Stores.{StoreMap, CellEntry, IsLive, cell_of, field_of, field_value}
-use Rattle.routing_expr.specs.Walks.{DataAlone, IsOfType, Walk}
-use Rattle.routing_expr.specs.Destinations.{EndsWalk, EndsKind, Dest, IsPointer}
-use Rattle.routing_expr.specs.Gathering.{Before}
-use Rattle.routing_expr.specs.Searches.{Lists}
-use Rattle.routing_expr.proofs.GatheringLemmas.{below_suc, Contains-at, place_in}
+use Rattle.routing_walks.specs.Walks.{DataAlone, IsOfType, Walk}
+use Rattle.routing_walks.specs.Destinations.{EndsWalk, EndsKind, Dest, IsPointer}
+use Rattle.routing_walks.specs.Gathering.{Before}
+use Rattle.routing_walks.specs.Sets.{Lists}
+use Rattle.routing_walks.proofs.GatheringLemmas.{below_suc, Contains-at, place_in}
+use Rattle.routing_walks.proofs.KeyLemmas.{key_of_live}
 use Rattle.routing_expr.proofs.IndexLemmas.{field-type, dead-mapped}
-use Rattle.routing_expr.proofs.KeyLemmas.{key_of_live}
 use Rattle.witness_store.specs.declared.finding.Pointing.{Pointing}
 use Rattle.witness_store.specs.Only.{IsOnlyCell}
 use Rattle.witness_store.specs.PointerFinding.{IsPointing}

@@ -8,8 +8,8 @@ use Rattle.store_core.specs.declared.value.Value.TheVariants as value
 use Rattle.store_core.specs.Tables.{TypeEntry, VarEntry}
 use Rattle.store_core.specs.Stores.{StoreMap, Fits, field_value}
 use Rattle.store_core.proofs.FittingLemmas.{IfSome-from, IfSome-at}
-use Rattle.routing_expr.specs.Destinations.{Dest, IsOnlyDestination}
-use Rattle.routing_expr.specs.WellFormed.{IsBackbone, IsWellFormed}
+use Rattle.routing_walks.specs.Destinations.{Dest, IsOnlyDestination}
+use Rattle.routing_walks.specs.WellFormed.{IsBackbone, IsWellFormed}
 use Rattle.witness_store.specs.Pointers.{IsPointerField, IsDestinationIfOne, ArePointersSet}
 use Rattle.witness_store.proofs.ExistenceLemmas.{set_store}
 use Rattle.tree_store.specs.Stores.{IsStoreOf}

@@ -21,13 +21,13 @@ use Rattle.store_core.specs.Tables.{TypeEntry, FieldEntry, VarEntry, fields_of, 
 use Rattle.store_core.specs.Stores.{StoreMap, IsLive, CellFits, SlotsFit, SlotFits, FieldFits, VarFits, VarsFit, cell_of, field_value, var_value}
 use Rattle.store_core.proofs.FittingLemmas.{IfSome-at, IsSomeAnd-at, slot_at_value, var_at_value}
 use Rattle.store_core.proofs.FreshLemmas.{slot_value}
-use Rattle.routing_expr.specs.Walks.{DataAlone, IsFollowed, Leads, IsOfType, IsOfVariant}
-use Rattle.routing_expr.specs.Destinations.{EndsKind, Dest, IsOnlyDestination, IsPointer}
-use Rattle.routing_expr.specs.WellFormed.{IsWellFormed, HoldsOfType, VarHoldsLive, FieldHoldsLive, SetHoldsLive}
-use Rattle.routing_expr.proofs.LiveLemmas.{Leads-live, IsOfType-live}
-use Rattle.routing_expr.proofs.MatchLemmas.{Matches, Walk-match}
-use Rattle.routing_laws.specs.Pairing.{PairsReference, PairsValue, PairsSlot, Pairwise, PairsCell, PairsEntry, ArePaired}
-use Rattle.routing_laws.proofs.DecidedStores.{dest_live}
+use Rattle.routing_walks.specs.Walks.{DataAlone, IsFollowed, Leads, IsOfType, IsOfVariant}
+use Rattle.routing_walks.specs.Destinations.{EndsKind, Dest, IsOnlyDestination, IsPointer}
+use Rattle.routing_walks.specs.WellFormed.{IsWellFormed, HoldsOfType, VarHoldsLive, FieldHoldsLive, SetHoldsLive}
+use Rattle.routing_walks.proofs.LiveLemmas.{Leads-live, IsOfType-live}
+use Rattle.routing_walks.proofs.MatchLemmas.{Matches, Walk-match}
+use Rattle.routing_walks.specs.Pairing.{PairsReference, PairsValue, PairsSlot, Pairwise, PairsCell, PairsEntry, ArePaired}
+use Rattle.routing_walks.proofs.DecidedStores.{dest_live}
 use Rattle.witness_store.specs.Only.{IsOnlyCell}
 use Rattle.witness_store.specs.Pointers.{IsPointerField, IsDestinationIfOne, ArePointersSet}
 use Rattle.witness_store.proofs.KeptLemmas.{known}

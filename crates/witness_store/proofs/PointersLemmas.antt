@@ -9,7 +9,7 @@ use Rattle.store_core.specs.declared.value.Value.TheVariants as value
 use Rattle.store_core.specs.Tables.{TypeEntry, VarEntry, var_at}
 use Rattle.store_core.specs.Stores.{StoreMap, Fits, IsFresh, var_value}
 use Rattle.store_core.proofs.FittingLemmas.{IfSome-from, IfSome-at}
-use Rattle.routing_expr.specs.WellFormed.{SetHoldsLive}
+use Rattle.routing_walks.specs.WellFormed.{SetHoldsLive}
 use Rattle.tree_encode.specs.Tracks.{TrackUse, of_variant, of_bool, of_var}
 use Rattle.tree_encode.specs.Positions.{IsPlaced}
 use Rattle.tree_store.specs.Encoding.{NamesCell, CellIsOn, RootIsOn, IsOn}

@@ -16,9 +16,9 @@ use Rattle.store_core.specs.declared.value.Value.TheVariants as value
 use Rattle.store_core.specs.Tables.{TypeEntry, FieldEntry, VarEntry, fields_of, field_at, is_had}
 use Rattle.store_core.specs.Stores.{StoreMap, CellEntry, IsLive, Fits, CellFits, SlotsFit, FieldFits, cell_of, field_of, field_value}
 use Rattle.store_core.proofs.FittingLemmas.{IfSome-at, IsSomeAnd-at, slot_at_value}
-use Rattle.routing_expr.specs.Walks.{DataAlone, IsFollowed, Leads}
-use Rattle.routing_expr.specs.WellFormed.{IsBackbone}
-use Rattle.routing_laws.specs.Paths.{LeadsAlong}
+use Rattle.routing_walks.specs.Walks.{DataAlone, IsFollowed, Leads}
+use Rattle.routing_walks.specs.WellFormed.{IsBackbone}
+use Rattle.routing_walks.specs.Paths.{LeadsAlong}
 use Rattle.witness_store.proofs.KeptLemmas.{known}
 use Rattle.tree_encode.specs.declared.counting.Counted.TheVariants.{Bools}
 use Rattle.tree_encode.specs.Counting.{counts, is_counted, rank, variants_in, bools_in}

@@ -19,11 +19,11 @@ use Rattle.store_laws.proofs.CellLemmas.{cell_cases}
 use Rattle.store_laws.proofs.ChangeLemmas.{IsFieldSet-set_field}
 use Rattle.store_laws.proofs.FitsLemmas.{Fits-set_field}
 use Rattle.store_laws.proofs.FreshLemmas.{IsFresh-set_field}
-use Rattle.routing_expr.specs.Destinations.{EndsKind, Dest, IsPointer}
-use Rattle.routing_expr.specs.Gathering.{HasAll}
-use Rattle.routing_expr.specs.Searches.{Lists}
-use Rattle.routing_expr.proofs.GatheringLemmas.{below_suc, Contains-at, place_in}
-use Rattle.routing_laws.proofs.DecidedStores.{dests}
+use Rattle.routing_walks.specs.Destinations.{EndsKind, Dest, IsPointer}
+use Rattle.routing_walks.specs.Gathering.{HasAll}
+use Rattle.routing_walks.specs.Sets.{Lists}
+use Rattle.routing_walks.proofs.GatheringLemmas.{below_suc, Contains-at, place_in}
+use Rattle.routing_walks.proofs.DecidedStores.{dests}
 use Rattle.witness_store.specs.declared.finding.Pointing.{Pointing}
 use Rattle.witness_store.specs.Only.{IsOnlyCell}
 use Rattle.witness_store.specs.Pointers.{IsPointerField, IsDestinationIfOne, ArePointersSet, DoCellsFit, IsSameButPointers}

@@ -5,7 +5,7 @@ use Rattle.store_core.specs.declared.ids.FieldId.{FieldId}
 use Rattle.store_core.specs.declared.ids.CellId.{CellId}
 use Rattle.store_core.specs.Tables.{TypeEntry, VarEntry}
 use Rattle.store_core.specs.Stores.{StoreMap}
-use Rattle.routing_expr.specs.WellFormed.{IsWellFormed, IsFunctional}
+use Rattle.routing_walks.specs.WellFormed.{IsWellFormed, IsFunctional}
 use Rattle.tree_encode.specs.Positions.{IsPlaced}
 use Rattle.tree_store.specs.Encoding.{IsAssignmentOf}
 use Rattle.witness_store.specs.Pointers.{IsPointerField}

@@ -2,7 +2,7 @@
 use Rattle.std.specs.Prelude.{List, IsSome}
 use Rattle.store_core.specs.Tables.{TypeEntry}
 use Rattle.store_core.specs.Stores.{StoreMap, field_value}
-use Rattle.routing_expr.specs.Destinations.{Dest}
+use Rattle.routing_walks.specs.Destinations.{Dest}
 use Rattle.witness_store.specs.declared.finding.Pointing.{Pointing}
 use Rattle.witness_store.specs.Only.{IsOnlyCell}
 use Rattle.witness_store.specs.Pointers.{IsPointerField}

@@ -9,9 +9,9 @@ use Rattle.store_core.specs.declared.value.Value.TheVariants as value
 use Rattle.store_core.specs.Tables.{TypeEntry, VarEntry, field_at}
 use Rattle.store_core.specs.Stores.{StoreMap, cell_of, field_value, CellFits}
 use Rattle.store_laws.specs.Changed.{variant_of}
-use Rattle.routing_expr.specs.Destinations.{Dest, IsPointer}
-use Rattle.routing_expr.specs.WellFormed.{IsBackbone}
-use Rattle.routing_laws.specs.Paths.{StandsAt}
+use Rattle.routing_walks.specs.Destinations.{Dest, IsPointer}
+use Rattle.routing_walks.specs.WellFormed.{IsBackbone}
+use Rattle.routing_walks.specs.Paths.{StandsAt}
 use Rattle.witness_store.specs.Only.{IsOnlyCell}
 
 -- the field is a pointer field of its type

@@ -3,8 +3,8 @@
 ghost use Rattle.std.specs.Prelude.{◌≡◌, ◌↔◌, Some, IfOk, OnOk, IsTrue, Contains};
 ghost use Rattle.store_core.specs.declared.ids.CellId.{CellId};
 ghost use Rattle.store_core.specs.CellLists.{AreRising};
-ghost use Rattle.routing_expr.specs.Walks.{DataAlone, IsOfType};
-ghost use Rattle.routing_expr.specs.Gathering.{Gathers, HasAll};
+ghost use Rattle.routing_walks.specs.Walks.{DataAlone, IsOfType};
+ghost use Rattle.routing_walks.specs.Gathering.{Gathers, HasAll};
 ghost use Rattle.witness_store.specs.declared.finding.Pointing.{Pointing};
 ghost use Rattle.witness_store.specs.Only.{IsOnlyCell};
 ghost use Rattle.witness_store.specs.PointerFinding.{IsPointing};

@@ -24,12 +24,12 @@ use Rattle.store_core.specs.declared.value.Value.TheVariants as value
 use Rattle.store_core.specs.Tables.{TypeEntry, FieldEntry, VarEntry, field_at, var_at}
 use Rattle.store_core.specs.Stores.{StoreMap, CellEntry, IsLive, FieldFits, VarFits, cell_of, field_value, var_value}
 use Rattle.store_core.proofs.FittingLemmas.{IsSomeAnd-at, var_at_value, slot_at_value}
-use Rattle.routing_expr.specs.declared.fault.Place.{Place}
-use Rattle.routing_expr.specs.declared.fault.Place.TheVariants as place
-use Rattle.routing_expr.specs.Walks.{DataAndPointers, IsFollowed, IsOfType}
-use Rattle.routing_expr.specs.WellFormed.{NamesDead, IsDanglingReference}
-use Rattle.routing_expr.specs.CutFaults.{HasDanglingReference}
-use Rattle.routing_expr.proofs.LiveLemmas.{IsSome-and, IsLive-field_value}
+use Rattle.routing_walks.specs.declared.fault.Place.{Place}
+use Rattle.routing_walks.specs.declared.fault.Place.TheVariants as place
+use Rattle.routing_walks.specs.Walks.{DataAndPointers, IsFollowed, IsOfType}
+use Rattle.routing_walks.specs.WellFormed.{NamesDead, IsDanglingReference}
+use Rattle.routing_walks.specs.CutFaults.{HasDanglingReference}
+use Rattle.routing_walks.proofs.LiveLemmas.{IsSome-and, IsLive-field_value}
 use Rattle.tree_encode.specs.Layouts.{LaidOut}
 use Rattle.tree_encode.proofs.PositionsLemmas.{own_type}
 use Rattle.tree_store.proofs.SpotsLemmas.{of-some}
@@ -47,7 +47,7 @@ use Rattle.graph_meaning.specs.Live.Fields.{FieldNamesAt}
 use Rattle.graph_meaning.proofs.live.AgreeingLemmas.{Agrees-bound, IsOnly-bound, IsOnly-still, sat-not, sat-ex1, sat-three}
 use Rattle.graph_meaning.proofs.live.SeenLemmas.{seen-is_dead}
 use Rattle.graph_meaning.proofs.live.TellLemmas.{stands-somewhere}
-use Rattle.routing_laws.proofs.DecidedLemmas.{in_none}
+use Rattle.routing_walks.proofs.DecidedLemmas.{in_none}
 use Rattle.tree_store.proofs.ListsLemmas.{Contains-one}
 use Rattle.graph_meaning.proofs.live.ReadLemmas.{is-none}
 use Rattle.graph_meaning.specs.Walks.Wells.{ShowsWell}

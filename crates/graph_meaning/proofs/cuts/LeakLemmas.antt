@@ -24,15 +24,15 @@ use Rattle.store_core.specs.declared.value.Value.TheVariants as value
 use Rattle.store_core.specs.Tables.{VarEntry, var_at}
 use Rattle.store_core.specs.Stores.{StoreMap, CellEntry, IsLive, VarFits, cell_of, var_value}
 use Rattle.store_core.proofs.FittingLemmas.{IsSomeAnd-at}
-use Rattle.routing_expr.specs.declared.fault.Place.TheVariants as place
-use Rattle.routing_expr.specs.Walks.{IsParent, Chain}
-use Rattle.routing_expr.specs.WellFormed.{IsDataVar, Names, IsInTree, IsLeaked}
-use Rattle.routing_expr.specs.CutFaults.{HasLeaked}
-use Rattle.routing_expr.specs.Regions.{has_number}
-use Rattle.routing_expr.proofs.LiveLemmas.{IsParent-live}
-use Rattle.routing_laws.proofs.DecidedLemmas.{in_none}
-use Rattle.routing_laws.proofs.DecidedStores.{leak_set, set_leaks}
-use Rattle.routing_laws.proofs.RegionLemmas.{number_in, in_number}
+use Rattle.routing_walks.specs.declared.fault.Place.TheVariants as place
+use Rattle.routing_walks.specs.Walks.{IsParent, Chain}
+use Rattle.routing_walks.specs.WellFormed.{IsDataVar, Names, IsInTree, IsLeaked}
+use Rattle.routing_walks.specs.CutFaults.{HasLeaked}
+use Rattle.routing_walks.specs.Regions.{has_number}
+use Rattle.routing_walks.proofs.LiveLemmas.{IsParent-live}
+use Rattle.routing_walks.proofs.DecidedLemmas.{in_none}
+use Rattle.routing_walks.proofs.DecidedStores.{leak_set, set_leaks}
+use Rattle.routing_walks.proofs.RegionLemmas.{number_in, in_number}
 use Rattle.tree_encode.specs.Layouts.{LaidOut}
 use Rattle.tree_store.proofs.SpotsLemmas.{of-some}
 use Rattle.tree_store.proofs.ListsLemmas.{Contains-one}

@@ -9,8 +9,8 @@ use Rattle.gta_theory.proofs.ListsLemmas.{Contains-first, Contains-map, Contains
 use Rattle.store_core.specs.declared.kind.VarKind.{VarKind}
 use Rattle.store_core.specs.declared.kind.VarKind.TheVariants as var
 use Rattle.store_core.specs.Tables.{VarEntry}
-use Rattle.routing_expr.specs.WellFormed.{IsDataVar}
-use Rattle.routing_laws.proofs.DecidedLemmas.{in_none, in_at, at_in}
+use Rattle.routing_walks.specs.WellFormed.{IsDataVar}
+use Rattle.routing_walks.proofs.DecidedLemmas.{in_none, in_at, at_in}
 use Rattle.tree_encode.proofs.TracksLemmas.{in_first, in_second}
 use Rattle.tree_store.proofs.ListsLemmas.{Contains-one}
 use Rattle.tree_formula.specs.WellEncoded.{named}

@@ -22,12 +22,12 @@ use Rattle.store_core.specs.Tables.{TypeEntry, FieldEntry, VarEntry, field_at, f
 use Rattle.store_core.specs.Stores.{StoreMap, CellEntry, IsLive, cell_of, field_value, var_value}
 use Rattle.store_core.proofs.FittingLemmas.{IsSomeAnd-at}
 use Rattle.store_laws.proofs.CellLemmas.{cell_cases}
-use Rattle.routing_expr.specs.declared.fault.Place.{Place}
-use Rattle.routing_expr.specs.declared.fault.Place.TheVariants as place
-use Rattle.routing_expr.specs.Walks.{DataAlone, IsFollowed, IsParent}
-use Rattle.routing_expr.specs.WellFormed.{IsDataVar, Names, IsShared}
-use Rattle.routing_expr.specs.CutFaults.{HasShared}
-use Rattle.routing_expr.proofs.LiveLemmas.{IsLive-field_value, IsParent-live}
+use Rattle.routing_walks.specs.declared.fault.Place.{Place}
+use Rattle.routing_walks.specs.declared.fault.Place.TheVariants as place
+use Rattle.routing_walks.specs.Walks.{DataAlone, IsFollowed, IsParent}
+use Rattle.routing_walks.specs.WellFormed.{IsDataVar, Names, IsShared}
+use Rattle.routing_walks.specs.CutFaults.{HasShared}
+use Rattle.routing_walks.proofs.LiveLemmas.{IsLive-field_value, IsParent-live}
 use Rattle.tree_encode.specs.Layouts.{LaidOut}
 use Rattle.tree_encode.proofs.PositionsLemmas.{own_type}
 use Rattle.tree_store.proofs.SpotsLemmas.{of-some}

@@ -10,7 +10,7 @@ use Rattle.store_core.specs.declared.value.Value.{Value}
 use Rattle.store_core.specs.Tables.{VarEntry, var_at}
 use Rattle.store_core.specs.Stores.{StoreMap, VarFits, VarsFit, var_value}
 use Rattle.store_core.proofs.FittingLemmas.{IfSome-at}
-use Rattle.routing_laws.proofs.DecidedLemmas.{in_none, in_at}
+use Rattle.routing_walks.proofs.DecidedLemmas.{in_none, in_at}
 use Rattle.tree_encode.specs.Layouts.{LaidOut}
 use Rattle.tree_store.proofs.SpotsLemmas.{present}
 use Rattle.graph_view.specs.declared.view.Sym.{Sym}

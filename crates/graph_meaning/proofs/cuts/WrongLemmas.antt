@@ -23,14 +23,14 @@ use Rattle.store_core.specs.declared.value.Value.TheVariants as value
 use Rattle.store_core.specs.Tables.{TypeEntry, FieldEntry, KnowsKind, field_at}
 use Rattle.store_core.specs.Stores.{StoreMap, IsLive, FieldFits, cell_of, field_value}
 use Rattle.store_core.proofs.FittingLemmas.{IsSomeAnd-at}
-use Rattle.routing_expr.specs.Walks.{DataAlone, DataAndPointers, IsFollowed, IsOfType, Walk}
-use Rattle.routing_expr.specs.Destinations.{EndsKind, Dest, IsOnlyDestination, IsPointer}
-use Rattle.routing_expr.specs.WellFormed.{IsWrongField}
-use Rattle.routing_expr.specs.CutFaults.{HasWrongField}
-use Rattle.routing_expr.proofs.LiveLemmas.{IsSome-and, IsLive-field_value}
-use Rattle.routing_laws.specs.Shown.{ShowsWrong}
-use Rattle.routing_laws.proofs.DecidedLemmas.{in_none}
-use Rattle.routing_laws.proofs.DecidedStores.{only_or_shown}
+use Rattle.routing_walks.specs.Walks.{DataAlone, DataAndPointers, IsFollowed, IsOfType, Walk}
+use Rattle.routing_walks.specs.Destinations.{EndsKind, Dest, IsOnlyDestination, IsPointer}
+use Rattle.routing_walks.specs.WellFormed.{IsWrongField}
+use Rattle.routing_walks.specs.CutFaults.{HasWrongField}
+use Rattle.routing_walks.proofs.LiveLemmas.{IsSome-and, IsLive-field_value}
+use Rattle.routing_walks.specs.Shown.{ShowsWrong}
+use Rattle.routing_walks.proofs.DecidedLemmas.{in_none}
+use Rattle.routing_walks.proofs.DecidedStores.{only_or_shown}
 use Rattle.tree_encode.specs.Layouts.{LaidOut}
 use Rattle.tree_store.proofs.SpotsLemmas.{of-some}
 use Rattle.tree_store.proofs.ListsLemmas.{flat_map-inside, Contains-one, listed-inside, Contains-listed}

@@ -19,20 +19,20 @@ use Rattle.store_core.specs.declared.value.Value.TheVariants as value
 use Rattle.store_core.specs.Tables.{TypeEntry, VarEntry, IsTypeTable, var_at}
 use Rattle.store_core.specs.Stores.{StoreMap, CellEntry, IsLive, Fits, VarFits, VarsFit, NamesType, CellFits, cell_of, var_value}
 use Rattle.store_core.proofs.FittingLemmas.{IfSome-from, IfSome-at, IsSomeAnd-at}
-use Rattle.routing_expr.specs.declared.fault.Place.TheVariants as place
-use Rattle.routing_expr.specs.Walks.{DataAlone, IsOfType, IsParent, IsRoot, Chain, stay, go}
-use Rattle.routing_expr.specs.WellFormed.{IsDataVar, Names, VarHoldsLive, IsBackbone}
-use Rattle.routing_expr.specs.Regions.{store_on, IsOn, IsPart, IsApart}
-use Rattle.routing_expr.proofs.KeyLemmas.{keys-rise, key_of_live, live_of_key}
-use Rattle.routing_expr.proofs.LiveLemmas.{IsParent-live, Chain-live}
-use Rattle.routing_laws.specs.Refuting.{IsOneEach}
-use Rattle.routing_laws.specs.Hanging.{NamesRoots}
-use Rattle.routing_laws.proofs.DecidedLemmas.{in_none, in_first, in_cases}
-use Rattle.routing_laws.proofs.DecidedStores.{part_of}
-use Rattle.routing_laws.proofs.RegionLemmas.{store_on-IsOn, live_on, on_live, part_apart, part_closed, dests_on, chain_on, leads_off}
-use Rattle.routing_laws.proofs.RegionLemmas.{value_on as field_on}
-use Rattle.routing_laws.proofs.HangingLemmas.{no_parent, backbone_hangs}
-use Rattle.routing_laws.proofs.FitsOn.{cells_fit_on, above_on}
+use Rattle.routing_walks.specs.declared.fault.Place.TheVariants as place
+use Rattle.routing_walks.specs.Walks.{DataAlone, IsOfType, IsParent, IsRoot, Chain, stay, go}
+use Rattle.routing_walks.specs.WellFormed.{IsDataVar, Names, VarHoldsLive, IsBackbone}
+use Rattle.routing_walks.specs.Regions.{store_on, IsOn, IsPart, IsApart}
+use Rattle.routing_walks.proofs.KeyLemmas.{keys-rise, key_of_live, live_of_key}
+use Rattle.routing_walks.proofs.LiveLemmas.{IsParent-live, Chain-live}
+use Rattle.routing_walks.specs.Refuting.{IsOneEach}
+use Rattle.routing_walks.specs.Hanging.{NamesRoots}
+use Rattle.routing_walks.proofs.DecidedLemmas.{in_none, in_first, in_cases}
+use Rattle.routing_walks.proofs.DecidedStores.{part_of}
+use Rattle.routing_walks.proofs.RegionLemmas.{store_on-IsOn, live_on, on_live, part_apart, part_closed, dests_on, chain_on, leads_off}
+use Rattle.routing_walks.proofs.RegionLemmas.{value_on as field_on}
+use Rattle.routing_walks.proofs.HangingLemmas.{no_parent, backbone_hangs}
+use Rattle.routing_walks.proofs.FitsOn.{cells_fit_on, above_on}
 use Rattle.tree_store.proofs.TablesLemmas.{type-known}
 use Rattle.tree_store.proofs.SpotsLemmas.{present}
 use Rattle.tree_store.proofs.WeighingLemmas.{weight-cells}

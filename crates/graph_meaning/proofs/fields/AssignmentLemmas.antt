@@ -14,10 +14,11 @@ use Rattle.store_core.specs.declared.value.Value.TheVariants as value
 use Rattle.store_core.specs.Tables.{TypeEntry, VarEntry}
 use Rattle.store_core.specs.Stores.{StoreMap, cell_of, field_value, var_value}
 use Rattle.store_core.proofs.FittingLemmas.{IsSomeAnd-at}
-use Rattle.routing_expr.specs.WellFormed.{IsBackbone}
-use Rattle.routing_laws.specs.Deciding.{Decided}
-use Rattle.routing_laws.proofs.DecidedLemmas.{decided_as, decided_both, decided_either, decided_number, decided_truth, decided_some, decided_in, decided_one_of}
-use Rattle.routing_laws.proofs.DecidedWalks.{decided_same_cell}
+use Rattle.routing_walks.specs.WellFormed.{IsBackbone}
+use Rattle.routing_walks.specs.Deciding.{Decided}
+use Rattle.routing_walks.proofs.DecidedLemmas.{decided_as, decided_both, decided_either, decided_number, decided_truth, decided_some}
+use Rattle.routing_walks.proofs.DecidedLemmas.{decided_in, decided_one_of}
+use Rattle.routing_walks.proofs.DecidedWalks.{decided_same_cell}
 use Rattle.tree_encode.specs.Tracks.{TrackUse, of_variant, of_bool, of_var, tracks_of}
 use Rattle.tree_encode.specs.Positions.{IsPlaced}
 use Rattle.tree_store.specs.Encoding.{NamesCell, CellIsOn, RootIsOn, IsOn, IsAssignmentOf}

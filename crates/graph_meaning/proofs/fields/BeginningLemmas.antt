@@ -18,9 +18,9 @@ use Rattle.store_core.specs.declared.value.Value.TheVariants as value
 use Rattle.store_core.specs.Tables.{TypeEntry, VarEntry, IsTypeTable, var_at}
 use Rattle.store_core.specs.Stores.{StoreMap, IsLive, VarFits, VarsFit, Fits, cell_of, var_value}
 use Rattle.store_core.proofs.FittingLemmas.{IfSome-from, IfSome-at, var_fits}
-use Rattle.routing_expr.specs.Walks.{IsOfType}
-use Rattle.routing_expr.specs.WellFormed.{VarHoldsLive, IsBackbone, SetHoldsLive, IsWellFormed}
-use Rattle.routing_expr.proofs.LiveLemmas.{IsSome-and}
+use Rattle.routing_walks.specs.Walks.{IsOfType}
+use Rattle.routing_walks.specs.WellFormed.{VarHoldsLive, IsBackbone, SetHoldsLive, IsWellFormed}
+use Rattle.routing_walks.proofs.LiveLemmas.{IsSome-and}
 use Rattle.tree_encode.specs.Layouts.{LaidOut}
 use Rattle.tree_encode.specs.Positions.{IsPlaced}
 use Rattle.tree_encode.specs.Tracks.{of_var, track_at, track_count, var_track}

@@ -21,10 +21,10 @@ use Rattle.store_core.specs.declared.kind.Route.{Route}
 use Rattle.store_core.specs.Tables.{TypeEntry, FieldEntry, VarEntry, IsTypeTable, KnowsKind, field_at}
 use Rattle.store_core.specs.Stores.{StoreMap, CellEntry, IsLive, Fits, cell_of, field_of, field_value}
 use Rattle.store_core.proofs.FittingLemmas.{IsSomeAnd-at}
-use Rattle.routing_expr.specs.Walks.{DataAlone, IsOfType, Walk}
-use Rattle.routing_expr.specs.Destinations.{EndsKind, Dest}
-use Rattle.routing_expr.specs.WellFormed.{IsBackbone}
-use Rattle.routing_expr.proofs.LiveLemmas.{IsSome-and}
+use Rattle.routing_walks.specs.Walks.{DataAlone, IsOfType, Walk}
+use Rattle.routing_walks.specs.Destinations.{EndsKind, Dest}
+use Rattle.routing_walks.specs.WellFormed.{IsBackbone}
+use Rattle.routing_walks.proofs.LiveLemmas.{IsSome-and}
 use Rattle.tree_encode.specs.Layouts.{LaidOut}
 use Rattle.tree_encode.specs.Tracks.{track_count}
 use Rattle.tree_store.specs.Encoding.{IsAssignmentOf}

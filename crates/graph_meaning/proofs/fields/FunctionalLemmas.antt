@@ -12,10 +12,10 @@ use Rattle.store_core.specs.declared.value.Value.{Value}
 use Rattle.store_core.specs.Tables.{TypeEntry, VarEntry, IsTypeTable, var_at}
 use Rattle.store_core.specs.Stores.{StoreMap, field_value, var_value}
 use Rattle.store_core.proofs.FittingLemmas.{IfSome-from, IsSomeAnd-at}
-use Rattle.routing_expr.specs.WellFormed.{IsFunctional, SetHoldsLive}
-use Rattle.routing_expr.proofs.LiveLemmas.{IsSome-and}
-use Rattle.routing_laws.specs.Refuting.{IsOneEach, Refutes}
-use Rattle.routing_laws.proofs.OneEachLemmas.{functional_from}
+use Rattle.routing_walks.specs.WellFormed.{IsFunctional, SetHoldsLive}
+use Rattle.routing_walks.proofs.LiveLemmas.{IsSome-and}
+use Rattle.routing_walks.specs.Refuting.{IsOneEach, Refutes}
+use Rattle.routing_walks.proofs.OneEachLemmas.{functional_from}
 use Rattle.tree_store.specs.Premises.{SetsHoldLive}
 use Rattle.graph_view.specs.Cuts.{field_formula}
 use Rattle.graph_meaning.specs.Fields.Forking.{HasFork}

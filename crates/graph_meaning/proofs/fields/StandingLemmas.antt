@@ -5,8 +5,8 @@ use Rattle.gta_theory.proofs.ListsLemmas.{Contains-first, Contains-later, Contai
 use Rattle.store_core.specs.declared.ids.CellId.{CellId}
 use Rattle.store_core.specs.Tables.{TypeEntry, VarEntry}
 use Rattle.store_core.specs.Stores.{StoreMap, IsLive, Fits}
-use Rattle.routing_expr.specs.WellFormed.{IsBackbone}
-use Rattle.routing_laws.proofs.DecidedWalks.{live_cells, live_in, in_live}
+use Rattle.routing_walks.specs.WellFormed.{IsBackbone}
+use Rattle.routing_walks.proofs.DecidedWalks.{live_cells, live_in, in_live}
 use Rattle.tree_encode.specs.Positions.{IsPlaced}
 use Rattle.tree_encode.proofs.ApartLemmas.{one-position}
 use Rattle.tree_store.proofs.StoresLemmas.{placed-live}

@@ -24,10 +24,10 @@ use Rattle.store_core.specs.Tables.{TypeEntry, FieldEntry, VarEntry, field_at}
 use Rattle.store_core.specs.Stores.{StoreMap, CellEntry, Fits, FieldFits, cell_of, field_value, field_class, blank}
 use Rattle.store_core.specs.declared.value.Class.TheVariants.{Reference}
 use Rattle.store_core.proofs.FittingLemmas.{IfSome-at, IsSomeAnd-at}
-use Rattle.routing_expr.specs.Walks.{DataAlone, IsFollowed, Leads, IsOfType}
-use Rattle.routing_expr.specs.WellFormed.{FieldHoldsLive, IsBackbone}
-use Rattle.routing_expr.proofs.LiveLemmas.{IsSome-and}
-use Rattle.routing_laws.specs.Paths.{LeadsAlong}
+use Rattle.routing_walks.specs.Walks.{DataAlone, IsFollowed, Leads, IsOfType}
+use Rattle.routing_walks.specs.WellFormed.{FieldHoldsLive, IsBackbone}
+use Rattle.routing_walks.proofs.LiveLemmas.{IsSome-and}
+use Rattle.routing_walks.specs.Paths.{LeadsAlong}
 use Rattle.tree_encode.specs.declared.counting.Counted.TheVariants.{Bools, Children}
 use Rattle.tree_encode.specs.Counting.{counts, is_counted, rank, variants_in, bools_in}
 use Rattle.tree_encode.specs.Tracks.{of_bool, track_at, track_count, bool_track, slot_of_var, child_number}

@@ -21,8 +21,8 @@ use Rattle.store_core.specs.Stores.{StoreMap, CellEntry, Fits, cell_of, put_cell
 use Rattle.store_core.proofs.FittingLemmas.{IsSomeAnd-at}
 use Rattle.store_laws.specs.Changed.{IsFieldSet, variant_of}
 use Rattle.store_laws.proofs.ChangeLemmas.{IsPut-put_cell, IsFieldSet-set_field, IsRemoved-remove_cell}
-use Rattle.routing_expr.specs.Walks.{IsOfVariant}
-use Rattle.routing_expr.proofs.LiveLemmas.{IsSome-and}
+use Rattle.routing_walks.specs.Walks.{IsOfVariant}
+use Rattle.routing_walks.proofs.LiveLemmas.{IsSome-and}
 use Rattle.tree_encode.specs.Tracks.{track_count}
 use Rattle.tree_store.specs.Encoding.{IsAssignmentOf}
 use Rattle.tree_store.proofs.SpotsLemmas.{of-some, map-some}

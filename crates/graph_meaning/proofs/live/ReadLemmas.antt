@@ -19,10 +19,10 @@ use Rattle.store_core.specs.declared.value.Value.{Value}
 use Rattle.store_core.specs.Tables.{TypeEntry, FieldEntry, VarEntry, field_at, fields_of, variant_count, unnamed_of, is_had}
 use Rattle.store_core.specs.Stores.{StoreMap, CellEntry, IsLive, Fits, SlotsFit, CellFits, cell_of, field_of, field_value}
 use Rattle.store_core.proofs.FittingLemmas.{IsSomeAnd-at, IfSome-at, same_type}
-use Rattle.routing_expr.specs.Walks.{IsOfType, IsOfVariant}
-use Rattle.routing_expr.specs.Regions.{IsRest, has_number, store_on}
-use Rattle.routing_expr.proofs.LiveLemmas.{IsSome-and}
-use Rattle.routing_laws.proofs.RegionLemmas.{number_in, in_number, store_on-IsOn}
+use Rattle.routing_walks.specs.Walks.{IsOfType, IsOfVariant}
+use Rattle.routing_walks.specs.Regions.{IsRest, has_number, store_on}
+use Rattle.routing_walks.proofs.LiveLemmas.{IsSome-and}
+use Rattle.routing_walks.proofs.RegionLemmas.{number_in, in_number, store_on-IsOn}
 use Rattle.tree_encode.proofs.TracksLemmas.{and_then-some}
 use Rattle.tree_store.proofs.SpotsLemmas.{of-some}
 use Rattle.tree_formula.specs.WellEncoded.{type_id, variant_in, types_in, variants_of}

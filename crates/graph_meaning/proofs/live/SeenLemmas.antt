@@ -23,8 +23,8 @@ use Rattle.store_core.specs.declared.value.Value.TheVariants as value
 use Rattle.store_core.specs.Tables.{TypeEntry, FieldEntry, VarEntry, field_at, variant_count}
 use Rattle.store_core.specs.Stores.{StoreMap, CellEntry, IsLive, Fits, FieldFits, cell_of, field_of, field_value, field_class}
 use Rattle.store_core.proofs.FittingLemmas.{IfSome-at, slot_at_value}
-use Rattle.routing_expr.specs.WellFormed.{FieldHoldsLive}
-use Rattle.routing_expr.proofs.LiveLemmas.{IsSome-and, IsLive-field_value}
+use Rattle.routing_walks.specs.WellFormed.{FieldHoldsLive}
+use Rattle.routing_walks.proofs.LiveLemmas.{IsSome-and, IsLive-field_value}
 use Rattle.tree_encode.specs.Layouts.{LaidOut}
 use Rattle.tree_encode.specs.Tracks.{bool_track}
 use Rattle.tree_formula.specs.WellEncoded.{track_or_first}

@@ -16,7 +16,7 @@ use Rattle.store_core.specs.Stores.{StoreMap, CellEntry, IsLive, Fits, put_cell,
 use Rattle.store_core.proofs.AboveLemmas.{live_below}
 use Rattle.store_laws.proofs.ChangeLemmas.{IsPut-put_cell, IsFieldSet-set_field, IsRemoved-remove_cell}
 use Rattle.store_laws.proofs.FitsLemmas.{above_alike, above_put}
-use Rattle.routing_expr.specs.WellFormed.{IsBackbone}
+use Rattle.routing_walks.specs.WellFormed.{IsBackbone}
 use Rattle.tree_encode.proofs.ApartLemmas.{placed-apart, one-position}
 use Rattle.tree_store.proofs.StoresLemmas.{placed-live}
 use Rattle.graph_view.specs.declared.view.Sym.{Sym}

@@ -3,7 +3,7 @@ use Rattle.std.proofs.Common.{◌≡◌, IsTrue, subst}
 use Rattle.gta_theory.specs.Assignments.{Position}
 use Rattle.store_core.specs.declared.ids.CellId.{CellId}
 use Rattle.store_core.specs.Stores.{StoreMap, IsLive}
-use Rattle.routing_expr.specs.Walks.{Chain, stay, go}
+use Rattle.routing_walks.specs.Walks.{Chain, stay, go}
 use Rattle.graph_view.specs.After.{Standing, IsAt}
 use Rattle.graph_meaning.specs.Walks.Walking.{JoinsAt}
 use Rattle.graph_meaning.proofs.walks.ClosingLemmas.{IsLinked}

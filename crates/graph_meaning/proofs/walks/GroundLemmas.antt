@@ -23,9 +23,9 @@ use Rattle.store_core.specs.declared.value.Value.TheVariants as value
 use Rattle.store_core.specs.Tables.{TypeEntry, FieldEntry, KnowsVariant, field_at}
 use Rattle.store_core.specs.Stores.{StoreMap, IsLive, FieldFits, field_value}
 use Rattle.store_core.proofs.FittingLemmas.{IsSomeAnd-at}
-use Rattle.routing_expr.specs.Walks.{Fields, DataAlone, DataAndPointers, IsFollowed, Leads, LeadsByName, IsParent, IsOfType, IsOfVariant, HasTruth, IsRoot}
-use Rattle.routing_expr.specs.Walks.{IsLeaf, Stays}
-use Rattle.routing_expr.proofs.LiveLemmas.{IsLive-field_value, Leads-live, IsParent-live}
+use Rattle.routing_walks.specs.Walks.{Fields, DataAlone, DataAndPointers, IsFollowed, Leads, LeadsByName, IsParent, IsOfType, IsOfVariant, HasTruth, IsRoot}
+use Rattle.routing_walks.specs.Walks.{IsLeaf, Stays}
+use Rattle.routing_walks.proofs.LiveLemmas.{IsLive-field_value, Leads-live, IsParent-live}
 use Rattle.tree_store.proofs.SpotsLemmas.{of-some}
 use Rattle.graph_view.specs.Sights.{Sight}
 use Rattle.graph_view.specs.Live.{lives, lives_in, has, is_live}

@@ -11,7 +11,7 @@ use Rattle.ws2s_forms.proofs.PositionsLemmas.{IsFiniteSet-just}
 use Rattle.store_core.specs.declared.ids.CellId.{CellId}
 use Rattle.store_core.specs.declared.ids.FieldId.{FieldId}
 use Rattle.store_core.specs.Tables.{TypeEntry, FieldEntry, field_at, fields_of}
-use Rattle.routing_laws.proofs.DecidedLemmas.{in_none}
+use Rattle.routing_walks.proofs.DecidedLemmas.{in_none}
 use Rattle.tree_formula.specs.WellEncoded.{type_id, field_in, types_in, fields_in}
 use Rattle.tree_store.proofs.ListsLemmas.{Contains-named, flat_map-inside}
 use Rattle.tree_store.proofs.TablesLemmas.{field-known}

@@ -18,10 +18,10 @@ use Rattle.store_core.specs.declared.value.Value.TheVariants as value
 use Rattle.store_core.specs.Tables.{TypeEntry, FieldEntry, KnowsRoute, KnowsKind, IsTypeTable, IsTypeEntry, IsFieldEntry, count_of_variants, field_at}
 use Rattle.store_core.specs.Stores.{StoreMap, CellEntry, IsLive, cell_of, field_of, field_value, field_class}
 use Rattle.store_core.proofs.FittingLemmas.{IsSomeAnd-at, IfSome-at}
-use Rattle.routing_expr.specs.Walks.{DataAlone, DataAndPointers, IsFollowed, IsOfType, Walk}
-use Rattle.routing_expr.specs.Destinations.{EndsKind, Dest, IsOnlyDestination, IsPointer}
-use Rattle.routing_expr.specs.WellFormed.{IsWellFormed}
-use Rattle.routing_expr.proofs.LiveLemmas.{IsSome-and, IsLive-field_value}
+use Rattle.routing_walks.specs.Walks.{DataAlone, DataAndPointers, IsFollowed, IsOfType, Walk}
+use Rattle.routing_walks.specs.Destinations.{EndsKind, Dest, IsOnlyDestination, IsPointer}
+use Rattle.routing_walks.specs.WellFormed.{IsWellFormed}
+use Rattle.routing_walks.proofs.LiveLemmas.{IsSome-and, IsLive-field_value}
 use Rattle.tree_encode.specs.Layouts.{LaidOut}
 use Rattle.tree_encode.specs.Tracks.{bool_track}
 use Rattle.tree_encode.proofs.TracksLemmas.{fielded}

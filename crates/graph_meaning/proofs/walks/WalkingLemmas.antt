@@ -15,14 +15,14 @@ use Rattle.store_core.specs.declared.kind.Route.TheOpen.{Route-F}
 use Rattle.store_core.specs.declared.kind.Route.TheFolds.{fold-Route, fold-roll-Route, map-Route}
 use Rattle.store_core.specs.Tables.{TypeEntry, KnowsRoute, knows_node, variant_count}
 use Rattle.store_core.specs.Stores.{StoreMap, IsLive}
-use Rattle.routing_expr.specs.Walks.{Fields, DataAlone, LeadsByName, IsParent, IsOfType, IsOfVariant, HasTruth, IsRoot, IsLeaf, Stays, Chain, stay, Walk}
-use Rattle.routing_expr.specs.Regions.{has_number}
-use Rattle.routing_expr.proofs.LiveLemmas.{Walk-live, Chain-live}
-use Rattle.routing_expr.proofs.RouteLemmas.{IsHereditary, route-induction}
-use Rattle.routing_expr.proofs.WalkLemmas.{Walk-Down, Walk-Up, Walk-UpAny, Walk-Root, Walk-Leaf, Walk-IsType, Walk-IsVariant, Walk-IsBool, Walk-Then, Walk-Or}
-use Rattle.routing_expr.proofs.WalkLemmas.{Walk-Star}
-use Rattle.routing_laws.proofs.DecidedWalks.{walk_ends}
-use Rattle.routing_laws.proofs.RegionLemmas.{number_in, in_number}
+use Rattle.routing_walks.specs.Walks.{Fields, DataAlone, LeadsByName, IsParent, IsOfType, IsOfVariant, HasTruth, IsRoot, IsLeaf, Stays, Chain, stay, Walk}
+use Rattle.routing_walks.specs.Regions.{has_number}
+use Rattle.routing_walks.proofs.LiveLemmas.{Walk-live, Chain-live}
+use Rattle.routing_walks.proofs.RouteLemmas.{IsHereditary, route-induction}
+use Rattle.routing_walks.proofs.WalkLemmas.{Walk-Down, Walk-Up, Walk-UpAny, Walk-Root, Walk-Leaf, Walk-IsType, Walk-IsVariant, Walk-IsBool, Walk-Then, Walk-Or}
+use Rattle.routing_walks.proofs.WalkLemmas.{Walk-Star}
+use Rattle.routing_walks.proofs.DecidedWalks.{walk_ends}
+use Rattle.routing_walks.proofs.RegionLemmas.{number_in, in_number}
 use Rattle.graph_view.specs.Sights.{Sight}
 use Rattle.graph_view.specs.Live.{is_live}
 use Rattle.graph_view.specs.Routes.{Naming, Joining, names_by_data, edge, star, walk_rules, walk_by}

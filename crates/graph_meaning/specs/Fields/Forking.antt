@@ -9,8 +9,8 @@ use Rattle.store_core.specs.declared.ids.FieldId.{FieldId}
 use Rattle.store_core.specs.declared.ids.CellId.{CellId}
 use Rattle.store_core.specs.Tables.{TypeEntry, VarEntry}
 use Rattle.store_core.specs.Stores.{StoreMap, Fits, field_value}
-use Rattle.routing_expr.specs.Destinations.{Dest}
-use Rattle.routing_expr.specs.WellFormed.{IsBackbone}
+use Rattle.routing_walks.specs.Destinations.{Dest}
+use Rattle.routing_walks.specs.WellFormed.{IsBackbone}
 use Rattle.tree_store.specs.Encoding.{IsAssignmentOf}
 use Rattle.tree_store.specs.Weighing.{AreVariantTracks}
 use Rattle.tree_store.specs.Premises.{SetsHoldLive}

@@ -2,7 +2,7 @@
 use Rattle.std.specs.Prelude.{ℕ, reverse}
 use Rattle.gta_theory.specs.Assignments.{Assignment}
 use Rattle.store_core.specs.Stores.{StoreMap, Fits}
-use Rattle.routing_expr.specs.WellFormed.{IsBackbone}
+use Rattle.routing_walks.specs.WellFormed.{IsBackbone}
 use Rattle.tree_encode.specs.Layouts.{LaidOut}
 use Rattle.tree_store.specs.Encoding.{IsAssignmentOf}
 use Rattle.tree_store.specs.Premises.{OwnersAreThere}

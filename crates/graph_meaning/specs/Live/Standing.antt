@@ -6,7 +6,7 @@ use Rattle.store_core.specs.declared.ids.TypeId.{TypeId}
 use Rattle.store_core.specs.declared.ids.VariantId.{VariantId}
 use Rattle.store_core.specs.declared.ids.FieldId.{FieldId}
 use Rattle.store_core.specs.Stores.{StoreMap, IsLive, IsAbove, field_value}
-use Rattle.routing_expr.specs.Walks.{IsOfType, IsOfVariant}
+use Rattle.routing_walks.specs.Walks.{IsOfType, IsOfVariant}
 use Rattle.graph_view.specs.After.{Standing, IsAt}
 
 -- each live cell has a position, no cell has two, and no two cells have one; numbers from the next on stand nowhere

@@ -5,7 +5,7 @@ use Rattle.store_core.specs.declared.ids.CellId.{CellId}
 use Rattle.store_core.specs.declared.kind.Route.{Route}
 use Rattle.store_core.specs.Tables.{TypeEntry}
 use Rattle.store_core.specs.Stores.{StoreMap}
-use Rattle.routing_expr.specs.Walks.{Fields, Walk}
+use Rattle.routing_walks.specs.Walks.{Fields, Walk}
 use Rattle.graph_view.specs.After.{Standing, IsAt}
 
 -- cells at the two positions are joined

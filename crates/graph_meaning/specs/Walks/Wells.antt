@@ -3,7 +3,7 @@ use Rattle.std.specs.Prelude.{ℕ}
 use Rattle.gta_theory.specs.Assignments.{Assignment}
 use Rattle.store_core.specs.Tables.{IsTypeTable}
 use Rattle.store_core.specs.Stores.{StoreMap}
-use Rattle.routing_expr.specs.WellFormed.{IsWellFormed}
+use Rattle.routing_walks.specs.WellFormed.{IsWellFormed}
 use Rattle.tree_encode.specs.Layouts.{LaidOut}
 use Rattle.graph_view.specs.declared.view.View.{View}
 use Rattle.graph_view.specs.After.{Standing}

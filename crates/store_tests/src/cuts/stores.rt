@@ -1,8 +1,8 @@
 //! Lists of nodes, with a logic set.
 
+use routing_walks::CutFault;
 use super::Case;
 use crate::tables::NODE;
-use routing_expr::CutFault;
 use store_core::VarKind;
 
 /// `data x, y: Node; set S: Node`

@@ -16,7 +16,7 @@ use Rattle.store_core.specs.declared.value.Value.TheVariants as value
 use Rattle.store_core.specs.Tables.{KnowsVariant, KnowsRoute}
 use Rattle.store_core.specs.Stores.{StoreMap, IsLive}
 use Rattle.store_core.proofs.FittingLemmas.{IsSomeAnd-at}
-use Rattle.routing_expr.specs.Walks.{DataAndPointers, IsOfVariant, Walk}
+use Rattle.routing_walks.specs.Walks.{DataAndPointers, IsOfVariant, Walk}
 use Rattle.store_logic.specs.declared.term.Base.{Base}
 use Rattle.store_logic.specs.declared.term.Term.{Term}
 use Rattle.store_logic.specs.Sorts.{Sort, Cell, Set, BaseFits, TermFits}

@@ -18,7 +18,7 @@ use Rattle.store_core.specs.declared.value.Value.TheVariants as value
 use Rattle.store_core.specs.Tables.{TypeEntry, VarEntry, var_at}
 use Rattle.store_core.specs.Stores.{StoreMap, VarFits, var_value}
 use Rattle.store_core.proofs.FittingLemmas.{IfSome-at}
-use Rattle.routing_laws.proofs.DecidedLemmas.{in_at}
+use Rattle.routing_walks.proofs.DecidedLemmas.{in_at}
 use Rattle.store_logic.specs.declared.term.Base.{Base}
 use Rattle.store_logic.specs.declared.term.Base.TheVariants as base
 use Rattle.store_logic.specs.Sorts.{Sort, Truth, Cell, Set, IsCellSort, BaseFits, var_sort}

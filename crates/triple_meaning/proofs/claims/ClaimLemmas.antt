@@ -8,12 +8,12 @@ use Rattle.store_core.specs.declared.ids.CellId.{CellId}
 use Rattle.store_core.specs.declared.ids.VarId.{VarId}
 use Rattle.store_core.specs.Stores.{StoreMap}
 use Rattle.store_core.proofs.FittingLemmas.{IsSomeAnd-at}
-use Rattle.routing_expr.specs.Searches.{Lists}
-use Rattle.routing_expr.specs.Reaching.{IsUnreached}
-use Rattle.routing_expr.specs.Regions.{IsPart, IsRest, store_on}
-use Rattle.routing_expr.proofs.TreeLemmas.{IsInTree-live}
-use Rattle.routing_laws.proofs.DecidedStores.{part_of, rest_of}
-use Rattle.routing_laws.proofs.RegionLemmas.{part_closed}
+use Rattle.routing_walks.specs.Sets.{Lists}
+use Rattle.routing_walks.specs.Reaching.{IsUnreached}
+use Rattle.routing_walks.specs.Regions.{IsPart, IsRest, store_on}
+use Rattle.routing_walks.proofs.TreeLemmas.{IsInTree-live}
+use Rattle.routing_walks.proofs.DecidedStores.{part_of, rest_of}
+use Rattle.routing_walks.proofs.RegionLemmas.{part_closed}
 use Rattle.store_logic.specs.declared.assertion.Assertion.{Assertion}
 use Rattle.store_logic.specs.declared.region.Region.{Region}
 use Rattle.store_logic.specs.declared.region.Region.TheVariants as region

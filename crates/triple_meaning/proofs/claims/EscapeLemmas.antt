@@ -22,8 +22,8 @@ use Rattle.store_core.specs.declared.value.Value.TheVariants as value
 use Rattle.store_core.specs.Tables.{VarEntry, var_at}
 use Rattle.store_core.specs.Stores.{StoreMap, VarFits, var_value}
 use Rattle.store_core.proofs.FittingLemmas.{IsSomeAnd-at}
-use Rattle.routing_expr.specs.Regions.{IsReachedFrom}
-use Rattle.routing_laws.proofs.DecidedLemmas.{in_none}
+use Rattle.routing_walks.specs.Regions.{IsReachedFrom}
+use Rattle.routing_walks.proofs.DecidedLemmas.{in_none}
 use Rattle.store_exec.specs.Cuts.{IsPointerVar, Escapes}
 use Rattle.tree_encode.specs.Layouts.{LaidOut}
 use Rattle.tree_formula.specs.WellEncoded.{var_id, vars_in}

@@ -23,14 +23,14 @@ use Rattle.store_core.specs.declared.value.Value.TheVariants as value
 use Rattle.store_core.specs.Tables.{var_at}
 use Rattle.store_core.specs.Stores.{StoreMap, IsLive, VarFits, var_value}
 use Rattle.store_core.proofs.FittingLemmas.{IsSomeAnd-at}
-use Rattle.routing_expr.specs.Walks.{IsParent, stay}
-use Rattle.routing_expr.specs.WellFormed.{IsDataVar}
-use Rattle.routing_expr.specs.Regions.{IsReachedFrom, has_number}
-use Rattle.routing_expr.proofs.LiveLemmas.{IsParent-live}
-use Rattle.routing_expr.proofs.TreeLemmas.{IsInTree-child}
-use Rattle.routing_laws.proofs.DecidedLemmas.{in_none}
-use Rattle.routing_laws.proofs.DecidedStores.{part_of}
-use Rattle.routing_laws.proofs.RegionLemmas.{number_in, in_number}
+use Rattle.routing_walks.specs.Walks.{IsParent, stay}
+use Rattle.routing_walks.specs.WellFormed.{IsDataVar}
+use Rattle.routing_walks.specs.Regions.{IsReachedFrom, has_number}
+use Rattle.routing_walks.proofs.LiveLemmas.{IsParent-live}
+use Rattle.routing_walks.proofs.TreeLemmas.{IsInTree-child}
+use Rattle.routing_walks.proofs.DecidedLemmas.{in_none}
+use Rattle.routing_walks.proofs.DecidedStores.{part_of}
+use Rattle.routing_walks.proofs.RegionLemmas.{number_in, in_number}
 use Rattle.store_logic.specs.Fits.{IsKnownDataVar}
 use Rattle.tree_encode.specs.Layouts.{LaidOut}
 use Rattle.tree_store.proofs.ListsLemmas.{Contains-one}

@@ -15,7 +15,7 @@ use Rattle.store_core.specs.declared.value.Value.TheVariants as value
 use Rattle.store_core.specs.Tables.{TypeEntry, FieldEntry, field_at}
 use Rattle.store_core.specs.Stores.{StoreMap, IsLive, cell_of, field_value}
 use Rattle.store_core.proofs.Growing.{AllByRecursion-push}
-use Rattle.routing_expr.specs.Walks.{DataAndPointers, IsFollowed}
+use Rattle.routing_walks.specs.Walks.{DataAndPointers, IsFollowed}
 use Rattle.store_logic.specs.Sorts.{Sort, Truth, Cell, Set, IsCellSort, field_sort, sort_along}
 use Rattle.store_logic.specs.Terms.{null, field_of_value, value_along, live_value, cell_in, truth_in}
 use Rattle.store_exec.proofs.SortLemmas.{first-field}

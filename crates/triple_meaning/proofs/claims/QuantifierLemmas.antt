@@ -14,8 +14,8 @@ use Rattle.store_core.specs.declared.ids.TypeId.{TypeId}
 use Rattle.store_core.specs.declared.value.Value.{Value}
 use Rattle.store_core.specs.declared.value.Value.TheVariants as value
 use Rattle.store_core.specs.Stores.{StoreMap, cell_of}
-use Rattle.routing_expr.specs.Walks.{IsOfType}
-use Rattle.routing_expr.proofs.LiveLemmas.{IsSome-and}
+use Rattle.routing_walks.specs.Walks.{IsOfType}
+use Rattle.routing_walks.proofs.LiveLemmas.{IsSome-and}
 use Rattle.store_logic.specs.Sorts.{Sort, Cell, Set}
 use Rattle.store_logic.specs.Terms.{Environment, under}
 use Rattle.store_logic.specs.Satisfaction.{IsSetOf}

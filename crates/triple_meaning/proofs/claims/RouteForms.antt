@@ -9,7 +9,7 @@ use Rattle.store_core.specs.declared.kind.Route.TheVariants.{rolls-IsBool, rolls
 use Rattle.store_core.specs.declared.kind.Route.TheOpen.{Route-F}
 use Rattle.store_core.specs.declared.kind.Route.TheFolds.{fold-Route, fold-roll-Route, rec-roll-Route, map-Route}
 use Rattle.store_core.specs.Tables.{TypeEntry, KnowsRoute, knows_node, variant_count}
-use Rattle.routing_expr.proofs.RouteLemmas.{IsHereditary, route-induction}
+use Rattle.routing_walks.proofs.RouteLemmas.{IsHereditary, route-induction}
 use Rattle.store_logic.specs.Fits.{RouteFitsNode, RouteFits}
 
 module _ (types : List TypeEntry) where

@@ -8,13 +8,13 @@ use Rattle.gta_theory.proofs.ListsLemmas.{Contains-first, Contains-later, Contai
 use Rattle.store_core.specs.declared.ids.CellId.{CellId}
 use Rattle.store_core.specs.declared.ids.TypeId.{TypeId}
 use Rattle.store_core.specs.Stores.{StoreMap, IsLive, cell_of}
-use Rattle.routing_expr.specs.Walks.{IsOfType}
-use Rattle.routing_expr.specs.Regions.{has_number}
-use Rattle.routing_expr.proofs.LiveLemmas.{IsSome-and}
-use Rattle.routing_laws.specs.Deciding.{Decided}
-use Rattle.routing_laws.proofs.DecidedWalks.{listed}
-use Rattle.routing_laws.proofs.DecidedLemmas.{in_none}
-use Rattle.routing_laws.proofs.RegionLemmas.{number_in, in_number}
+use Rattle.routing_walks.specs.Walks.{IsOfType}
+use Rattle.routing_walks.specs.Regions.{has_number}
+use Rattle.routing_walks.proofs.LiveLemmas.{IsSome-and}
+use Rattle.routing_walks.specs.Deciding.{Decided}
+use Rattle.routing_walks.proofs.DecidedWalks.{listed}
+use Rattle.routing_walks.proofs.DecidedLemmas.{in_none}
+use Rattle.routing_walks.proofs.RegionLemmas.{number_in, in_number}
 use Rattle.store_logic.specs.Satisfaction.{IsSetOf}
 use Rattle.graph_view.specs.After.{Standing, IsAt}
 use Rattle.graph_meaning.specs.Live.Standing.{TypeAt}

@@ -20,8 +20,8 @@ use Rattle.store_core.specs.declared.value.Value.TheVariants as value
 use Rattle.store_core.specs.Tables.{FieldEntry, field_at}
 use Rattle.store_core.specs.Stores.{StoreMap, IsLive, field_value}
 use Rattle.store_core.proofs.FittingLemmas.{IsSomeAnd-at}
-use Rattle.routing_expr.specs.Walks.{DataAndPointers, IsFollowed}
-use Rattle.routing_expr.proofs.LiveLemmas.{IsLive-field_value}
+use Rattle.routing_walks.specs.Walks.{DataAndPointers, IsFollowed}
+use Rattle.routing_walks.proofs.LiveLemmas.{IsLive-field_value}
 use Rattle.store_logic.specs.declared.term.Base.{Base}
 use Rattle.store_logic.specs.declared.term.Term.{Term}
 use Rattle.store_logic.specs.declared.term.Term.TheVariants as term

@@ -3,8 +3,8 @@ use Rattle.std.proofs.Common.{ℕ, List, length, Option, IsSomeAnd, sym, subst}
 use Rattle.gta_theory.specs.Assignments.{Assignment}
 use Rattle.store_core.specs.Tables.{TypeEntry, VarEntry}
 use Rattle.store_core.specs.Stores.{StoreMap, Fits, IsFresh}
-use Rattle.routing_expr.specs.WellFormed.{IsWellFormed}
-use Rattle.routing_expr.proofs.FreshLemmas.{IsFresh-well_formed}
+use Rattle.routing_walks.specs.WellFormed.{IsWellFormed}
+use Rattle.routing_walks.proofs.FreshLemmas.{IsFresh-well_formed}
 use Rattle.store_exec.specs.declared.cause.Cause.{Cause}
 use Rattle.store_exec.specs.declared.outcome.Outcome.{Outcome}
 use Rattle.store_exec.specs.declared.outcome.Outcome.TheVariants as outcome

@@ -15,8 +15,8 @@ use Rattle.store_core.specs.declared.value.Value.TheVariants as value
 use Rattle.store_core.specs.Tables.{TypeEntry, VarEntry, var_at}
 use Rattle.store_core.specs.Stores.{StoreMap, IsLive, cell_of, var_value}
 use Rattle.store_core.proofs.FittingLemmas.{IfSome-at, IfSome-from, IsSomeAnd-at}
-use Rattle.routing_expr.specs.WellFormed.{IsDataVar, VarHoldsLive, IsWellFormed}
-use Rattle.routing_expr.proofs.LiveLemmas.{IsSome-and}
+use Rattle.routing_walks.specs.WellFormed.{IsDataVar, VarHoldsLive, IsWellFormed}
+use Rattle.routing_walks.proofs.LiveLemmas.{IsSome-and}
 use Rattle.store_logic.specs.Fits.{IsKnownDataVar}
 use Rattle.store_exec.specs.declared.triple.Triple.{Triple}
 use Rattle.store_exec.specs.Cuts.{AreMet, Escapes}

@@ -19,7 +19,7 @@ use Rattle.store_core.specs.declared.value.Value.TheVariants as value
 use Rattle.store_core.specs.Tables.{TypeEntry, FieldEntry, VarEntry, field_at}
 use Rattle.store_core.specs.Stores.{StoreMap, CellEntry, IsLive, NamesType, cell_of, field_value}
 use Rattle.store_core.proofs.FittingLemmas.{IfSome-at}
-use Rattle.routing_expr.specs.Walks.{IsOfVariant}
+use Rattle.routing_walks.specs.Walks.{IsOfVariant}
 use Rattle.store_exec.specs.declared.cause.Cause.TheVariants as cause
 use Rattle.store_exec.specs.Steps.{and_then, field_read, read}
 use Rattle.tree_store.proofs.SpotsLemmas.{of-some}

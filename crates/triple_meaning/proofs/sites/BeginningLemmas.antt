@@ -12,8 +12,8 @@ use Rattle.store_core.specs.declared.kind.VarKind.TheVariants as var
 use Rattle.store_core.specs.Tables.{TypeEntry, VarEntry, var_at}
 use Rattle.store_core.specs.Stores.{StoreMap}
 use Rattle.store_core.proofs.FittingLemmas.{IsSomeAnd-at}
-use Rattle.routing_expr.specs.WellFormed.{IsDataVar}
-use Rattle.routing_expr.proofs.FreshLemmas.{IsFresh-well_formed}
+use Rattle.routing_walks.specs.WellFormed.{IsDataVar}
+use Rattle.routing_walks.proofs.FreshLemmas.{IsFresh-well_formed}
 use Rattle.tree_encode.specs.Counting.{is_data_kind, is_data_var}
 use Rattle.tree_encode.specs.Tracks.{track_count, slot_of_var, child_number}
 use Rattle.tree_encode.specs.Positions.{below, IsPlaced}

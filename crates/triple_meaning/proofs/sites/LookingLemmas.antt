@@ -18,7 +18,7 @@ use Rattle.store_core.specs.declared.kind.FieldKind.TheVariants as field
 use Rattle.store_core.specs.declared.value.Value.TheVariants as value
 use Rattle.store_core.specs.Tables.{TypeEntry, FieldEntry, VarEntry, KnowsVariant, field_at}
 use Rattle.store_core.specs.Stores.{StoreMap, IsLive, field_value}
-use Rattle.routing_expr.specs.Walks.{DataAndPointers, IsFollowed}
+use Rattle.routing_walks.specs.Walks.{DataAndPointers, IsFollowed}
 use Rattle.tree_encode.specs.Layouts.{LaidOut}
 use Rattle.tree_store.proofs.TablesLemmas.{owners-there}
 use Rattle.graph_view.specs.declared.view.Sym.{Sym}

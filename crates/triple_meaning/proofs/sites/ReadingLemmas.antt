@@ -23,9 +23,9 @@ use Rattle.store_core.specs.declared.value.Value.{Value}
 use Rattle.store_core.specs.declared.value.Value.TheVariants as one_value
 use Rattle.store_core.specs.Tables.{TypeEntry, FieldEntry, VarEntry, field_at, var_at}
 use Rattle.store_core.specs.Stores.{StoreMap, CellEntry, IsLive, Fits, FieldFits, NamesType, cell_of, field_value, var_value}
-use Rattle.routing_expr.specs.Walks.{DataAndPointers, IsFollowed}
-use Rattle.routing_laws.proofs.DecidedLemmas.{in_at}
 use Rattle.store_core.proofs.FittingLemmas.{IfSome-at}
+use Rattle.routing_walks.specs.Walks.{DataAndPointers, IsFollowed}
+use Rattle.routing_walks.proofs.DecidedLemmas.{in_at}
 use Rattle.tree_store.proofs.SpotsLemmas.{present}
 use Rattle.store_logic.specs.declared.path.Path.{Path}
 use Rattle.store_logic.specs.declared.path.Operand.{Operand}

@@ -21,7 +21,7 @@ use Rattle.store_core.specs.declared.value.Value.TheVariants as one_value
 use Rattle.store_core.specs.Tables.{TypeEntry, FieldEntry, VarEntry, KnowsVariant, field_at, var_at}
 use Rattle.store_core.specs.Stores.{StoreMap, CellEntry, IsLive, FieldFits, cell_of, field_value}
 use Rattle.store_core.proofs.FittingLemmas.{IsSomeAnd-at}
-use Rattle.routing_expr.specs.Walks.{IsOfVariant}
+use Rattle.routing_walks.specs.Walks.{IsOfVariant}
 use Rattle.store_logic.specs.declared.path.Path.{Path}
 use Rattle.store_logic.specs.Sorts.{Truth, Cell, field_sort, sort_along}
 use Rattle.store_logic.specs.FitsCode.{code_sort, PathFits}

@@ -15,7 +15,7 @@ use Rattle.store_core.specs.declared.kind.Route.TheVariants.{rolls-IsBool, rolls
 use Rattle.store_core.specs.declared.kind.Route.TheOpen.{Route-F}
 use Rattle.store_core.specs.declared.kind.Route.TheFolds.{fold-roll-Route, map-Route}
 use Rattle.store_core.specs.Tables.{TypeEntry, FieldEntry, VarEntry, field_at}
-use Rattle.routing_expr.proofs.RouteLemmas.{IsHereditary, route-induction}
+use Rattle.routing_walks.proofs.RouteLemmas.{IsHereditary, route-induction}
 use Rattle.tree_encode.specs.Tracks.{track_count}
 use Rattle.graph_view.specs.declared.view.Sym.{Sym}
 use Rattle.graph_view.specs.Sights.{Sight, at_first}

@@ -8,7 +8,7 @@ use Rattle.store_core.specs.declared.ids.VarId.{VarId}
 use Rattle.store_core.specs.declared.value.Value.TheVariants as value
 use Rattle.store_core.specs.Tables.{TypeEntry, VarEntry}
 use Rattle.store_core.specs.Stores.{StoreMap, IsLive, var_value}
-use Rattle.routing_expr.specs.Regions.{IsReachedFrom}
+use Rattle.routing_walks.specs.Regions.{IsReachedFrom}
 use Rattle.store_logic.specs.declared.region.Region.{Region}
 use Rattle.store_logic.specs.declared.region.Region.TheVariants as region
 use Rattle.graph_view.specs.After.{Standing, IsAt}

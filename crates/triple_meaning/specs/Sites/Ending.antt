@@ -12,7 +12,7 @@ use Rattle.store_exec.specs.declared.outcome.Outcome.TheVariants as outcome
 use Rattle.store_exec.specs.declared.triple.Cut.{Cut}
 use Rattle.store_exec.specs.declared.triple.Triple.{Triple}
 use Rattle.store_exec.specs.Runs.{RunsCode}
-use Rattle.routing_expr.specs.CutFaults.{HasDanglingReference, HasShared, HasLeaked, HasWrongField}
+use Rattle.routing_walks.specs.CutFaults.{HasDanglingReference, HasShared, HasLeaked, HasWrongField}
 use Rattle.store_exec.specs.Cuts.{AreMet, Escapes, AtCut}
 use Rattle.graph_view.specs.declared.view.CutCheck.TheVariants as look
 use Rattle.graph_view.specs.Cuts.{cut_formula}

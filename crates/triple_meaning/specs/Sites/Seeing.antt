@@ -6,7 +6,7 @@ use Rattle.ws2s_core.specs.Satisfaction.{WSat}
 use Rattle.store_core.specs.Tables.{TypeEntry, VarEntry, IsTypeTable}
 use Rattle.store_core.specs.declared.ids.CellId.{CellId}
 use Rattle.store_core.specs.Stores.{StoreMap, IsFresh}
-use Rattle.routing_expr.specs.WellFormed.{IsWellFormed}
+use Rattle.routing_walks.specs.WellFormed.{IsWellFormed}
 use Rattle.tree_encode.specs.Tracks.{track_count}
 use Rattle.tree_store.specs.Encoding.{IsAssignmentOf}
 use Rattle.ws2s_forms.specs.Places.{slot_of}

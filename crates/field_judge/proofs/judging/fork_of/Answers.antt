@@ -2,7 +2,7 @@ use Rattle.std.proofs.Common.{List, Option, IfNone, IfSome, sym, subst}
 use Rattle.ws2s_core.specs.LabelTrees.{assignment_of}
 use Rattle.store_core.specs.declared.ids.CellId.{CellId}
 use Rattle.store_core.specs.Tables.{TypeEntry, VarEntry}
-use Rattle.routing_expr.specs.WellFormed.{IsFirstCell}
+use Rattle.routing_walks.specs.WellFormed.{IsFirstCell}
 use Rattle.tree_store.specs.Shapes.{LaysOut}
 use Rattle.graph_meaning.specs.Fields.Forking.{Forks, HasFork}
 use Rattle.witness_store.specs.Results.{IsReadOff}

@@ -1,7 +1,7 @@
 use Rattle.std.proofs.Common.{◌≡◌, List, Some, ap, subst, arith}
 use Rattle.store_core.specs.Tables.{TypeEntry, variant_count}
-use Rattle.routing_expr.specs.Gathering.{Gathers}
-use Rattle.routing_expr.proofs.GatheringLemmas.{Gathers-start, Gathers-next, Gathers-alike}
+use Rattle.routing_walks.specs.Gathering.{Gathers}
+use Rattle.routing_walks.proofs.GatheringLemmas.{Gathers-start, Gathers-next, Gathers-alike}
 use Rattle.field_judge.proofs.WeighedLemmas.{TrackAt, tracks-of_type}
 use Rattle.field_judge.proofs.weighing.push_tracks.Goals as goal
 

@@ -1,4 +1,4 @@
-use Rattle.routing_expr.specs.Gathering.{Gathers, Before}
+use Rattle.routing_walks.specs.Gathering.{Gathers, Before}
 use Rattle.field_judge.proofs.WeighedLemmas.{TrackAt}
 use Rattle.field_judge.proofs.weighing.push_tracks.Given as goal
 

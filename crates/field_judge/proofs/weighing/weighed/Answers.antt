@@ -1,7 +1,7 @@
 use Rattle.std.proofs.Common.{List, [], length, sym, ap, subst, arith}
 use Rattle.store_core.specs.Tables.{TypeEntry, IsTypeTable}
-use Rattle.routing_expr.specs.Gathering.{Gathers, Before}
-use Rattle.routing_expr.proofs.GatheringLemmas.{Gathers-start, Gathers-next, HasAll-gathered, HasAll-alike}
+use Rattle.routing_walks.specs.Gathering.{Gathers, Before}
+use Rattle.routing_walks.proofs.GatheringLemmas.{Gathers-start, Gathers-next, HasAll-gathered, HasAll-alike}
 use Rattle.field_judge.specs.Weighed.{IsVariantTrack}
 use Rattle.field_judge.proofs.WeighedLemmas.{TrackIn, tracks-of_all}
 use Rattle.field_judge.proofs.weighing.weighed.Goals as goal

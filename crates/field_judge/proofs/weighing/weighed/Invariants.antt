@@ -1,5 +1,5 @@
 use Rattle.std.proofs.Common.{[]}
-use Rattle.routing_expr.specs.Gathering.{Gathers, Before}
+use Rattle.routing_walks.specs.Gathering.{Gathers, Before}
 use Rattle.field_judge.proofs.WeighedLemmas.{TrackIn}
 use Rattle.field_judge.proofs.weighing.weighed.Given as goal
 

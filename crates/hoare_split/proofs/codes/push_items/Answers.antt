@@ -1,6 +1,6 @@
 use Rattle.std.proofs.Common.{◌≡◌, ℕ, ◌+◌, ◌≤◌, ◌∷◌, List, refl, sym, ap, ◌∙◌, subst}
 use Rattle.std.specs.List.{sum_by}
-use Rattle.pale_types.specs.declared.typed.Stmt.{Stmt}
+use Rattle.pale_typed.specs.declared.typed.Stmt.{Stmt}
 use Rattle.hoare_split.specs.Weights.{weight_of, weight_behind}
 use Rattle.hoare_split.specs.Following.{block_in, flow_of}
 use Rattle.hoare_split.proofs.StatementLemmas.{not-false}

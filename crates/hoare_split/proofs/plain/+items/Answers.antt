@@ -2,8 +2,8 @@ use Rattle.std.proofs.Common.{◌≡◌, ◌+◌, List, [], Result, Ok, Err, OnO
 use Rattle.std.proofs.lemmas.List.{drop_all}
 use Rattle.store_core.specs.Tables.{VarEntry}
 use Rattle.store_exec.specs.declared.code.Item.{Item}
-use Rattle.pale_types.specs.declared.typed.Stmt.{Stmt}
-use Rattle.pale_types.specs.declared.typed.ProcEntry.{ProcEntry}
+use Rattle.pale_typed.specs.declared.typed.Stmt.{Stmt}
+use Rattle.pale_typed.specs.declared.typed.ProcEntry.{ProcEntry}
 use Rattle.hoare_split.specs.Passages.{Passage}
 use Rattle.hoare_split.specs.Statements.{passage_of, block_of}
 use Rattle.hoare_split.proofs.StatementLemmas.{block-next}

@@ -1,6 +1,6 @@
 use Rattle.std.proofs.Common.{List, drop}
 use Rattle.store_core.specs.Tables.{VarEntry}
-use Rattle.pale_types.specs.declared.typed.ProcEntry.{ProcEntry}
+use Rattle.pale_typed.specs.declared.typed.ProcEntry.{ProcEntry}
 use Rattle.hoare_split.specs.Statements.{block_of}
 use Rattle.hoare_split.proofs.PlainLemmas.{WithMore}
 use Rattle.hoare_split.proofs.plain.+items.Given as goal

@@ -1,5 +1,5 @@
 use Rattle.std.proofs.Common.{List, refl, subst}
-use Rattle.pale_types.specs.declared.typed.Stmt.{Stmt}
+use Rattle.pale_typed.specs.declared.typed.Stmt.{Stmt}
 use Rattle.hoare_split.specs.Cuts.{at_assertion}
 use Rattle.hoare_split.specs.Flows.{Flow, ends, branches, arrivals_of}
 use Rattle.hoare_split.specs.Starts.{plain_start}

@@ -1,5 +1,5 @@
 use Rattle.std.proofs.Common.{List, ◌∷◌, sym, ap}
-use Rattle.pale_types.specs.declared.typed.Stmt.{Stmt}
+use Rattle.pale_typed.specs.declared.typed.Stmt.{Stmt}
 use Rattle.store_exec.specs.declared.triple.Start.{Start}
 use Rattle.hoare_split.specs.Passages.{Started}
 use Rattle.hoare_split.specs.Starts.{entry_start}

@@ -1,5 +1,5 @@
 use Rattle.std.proofs.Common.{◌≡◌, ◌++◌, drop}
-use Rattle.pale_assertions.specs.Arguments.{arguments_fault, arguments_of}
+use Rattle.pale_vocabulary.specs.Arguments.{arguments_fault, arguments_of}
 use Rattle.pale_assertions.proofs.arguments.read_arguments.Given as goal
 
 -- what came before has no fault, and the arguments that are left come behind those that were read

@@ -1,6 +1,6 @@
 use Rattle.std.proofs.Common.{◌≡◌, ◌++◌, map, drop}
 use Rattle.pale_tables.specs.Faults.{first_of}
-use Rattle.pale_assertions.specs.Assertions.{assertion_fault, typed_assertion}
+use Rattle.pale_vocabulary.specs.Assertions.{assertion_fault, typed_assertion}
 use Rattle.pale_assertions.proofs.assertions.+assertions.Given as goal
 
 -- the scope is as it was, what came before has no fault, and the assertions that are left come behind those that were read

@@ -1,5 +1,5 @@
 use Rattle.std.proofs.Common.{◌≡◌}
-use Rattle.pale_assertions.specs.Connectives.{chained}
+use Rattle.pale_vocabulary.specs.Connectives.{chained}
 use Rattle.pale_assertions.proofs.connectives.connect_all.Given as goal
 
 abbrev pub invariant-loop-next : goal.invariant-loop-next

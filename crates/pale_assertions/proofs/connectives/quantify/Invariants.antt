@@ -1,5 +1,5 @@
 use Rattle.std.proofs.Common.{◌≡◌, drop, fold}
-use Rattle.pale_assertions.specs.Connectives.{quantified, quantified_once}
+use Rattle.pale_vocabulary.specs.Connectives.{quantified, quantified_once}
 use Rattle.pale_assertions.proofs.connectives.quantify.Given as goal
 
 -- the quantifiers that are left go round those that were made

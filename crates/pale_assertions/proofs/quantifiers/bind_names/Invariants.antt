@@ -1,5 +1,5 @@
 use Rattle.std.proofs.Common.{◌≡◌, ◌++◌, drop, map, take, length}
-use Rattle.pale_assertions.specs.Quantifiers.{bound_entry, names_fault}
+use Rattle.pale_vocabulary.specs.Quantifiers.{bound_entry, names_fault}
 use Rattle.pale_assertions.proofs.quantifiers.bind_names.Given as goal
 
 -- what came before has no fault, and the names that are left come behind those that were bound

@@ -1,5 +1,5 @@
 use Rattle.std.proofs.Common.{◌≡◌, ◌++◌, [], drop, map, length}
-use Rattle.pale_predicates.specs.Parameters.{parameters_fault, scope_of, sort_of}
+use Rattle.pale_vocabulary.specs.Parameters.{parameters_fault, scope_of, sort_of}
 use Rattle.pale_predicates.proofs.parameters.read_parameters.Given as goal
 
 -- what came before has no fault, and the parameters that are left come behind those that were read

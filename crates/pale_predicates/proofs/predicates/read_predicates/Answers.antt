@@ -4,10 +4,10 @@ use Rattle.pale_syntax.specs.declared.tree.declaration.PredicateDeclaration.{Pre
 use Rattle.pale_tables.specs.Faults.{Fault, ◌>>◌, IsStop}
 use Rattle.pale_tables.specs.Names.{repeated_fault}
 use Rattle.pale_tables.proofs.FaultLemmas.{stop-then, stop_returned}
-use Rattle.pale_assertions.specs.Heads.{head_names}
-use Rattle.pale_predicates.specs.declared.predicates.Declared.{Declared}
-use Rattle.pale_predicates.specs.Predicates.{with_pred, predicate_fault, predicates_fault, nothing_with}
-use Rattle.pale_predicates.proofs.NameLemmas.{names-first, names-rest, heads-next}
+use Rattle.pale_vocabulary.specs.Heads.{head_names}
+use Rattle.pale_vocabulary.specs.declared.vocabulary.Declared.{Declared}
+use Rattle.pale_vocabulary.specs.Predicates.{with_pred, predicate_fault, predicates_fault, nothing_with}
+use Rattle.pale_vocabulary.proofs.NameLemmas.{names-first, names-rest, heads-next}
 use Rattle.pale_predicates.proofs.predicates.read_predicates.Goals as goal
 
 pub read_predicate-requires : goal.read_predicate-requires

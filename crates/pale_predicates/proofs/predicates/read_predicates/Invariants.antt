@@ -1,7 +1,7 @@
 use Rattle.std.proofs.Common.{◌≡◌, None, map, drop, fold}
 use Rattle.pale_tables.specs.Names.{repeated_fault}
-use Rattle.pale_assertions.specs.Heads.{head_names}
-use Rattle.pale_predicates.specs.Predicates.{with_pred, predicates_fault, nothing_with, declared_by}
+use Rattle.pale_vocabulary.specs.Heads.{head_names}
+use Rattle.pale_vocabulary.specs.Predicates.{with_pred, predicates_fault, nothing_with, declared_by}
 use Rattle.pale_predicates.proofs.predicates.read_predicates.Given as goal
 
 -- what came before has no fault, and the names that are left are new

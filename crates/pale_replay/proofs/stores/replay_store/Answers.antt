@@ -1,7 +1,7 @@
 use Rattle.std.proofs.Common.{Option, IfSome, subst, sym, ◌∙◌}
 use Rattle.std.proofs.lemmas.Bool.{false≢true}
-use Rattle.routing_expr.specs.declared.fault.WfFault.{WfFault}
-use Rattle.routing_expr.specs.WellFormed.{IsFirstFault}
+use Rattle.routing_walks.specs.declared.fault.WfFault.{WfFault}
+use Rattle.routing_walks.specs.WellFormed.{IsFirstFault}
 use Rattle.pale_replay.specs.Replays.{not_well_formed, start_false}
 use Rattle.pale_replay.proofs.stores.replay_store.Goals as goal
 

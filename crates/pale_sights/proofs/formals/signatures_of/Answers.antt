@@ -3,7 +3,7 @@ use Rattle.std.proofs.lemmas.List.{map_push}
 use Rattle.store_core.specs.Tables.{place_of}
 use Rattle.pale_tables.specs.Names.{repeated_fault}
 use Rattle.pale_tables.proofs.StageLemmas.{item-next}
-use Rattle.pale_predicates.proofs.NameLemmas.{names-first, names-rest}
+use Rattle.pale_vocabulary.proofs.NameLemmas.{names-first, names-rest}
 use Rattle.pale_calls.specs.Signatures.{Named, procedure_names}
 use Rattle.pale_sights.specs.Formals.{named_of}
 use Rattle.pale_sights.proofs.formals.signatures_of.Goals as goal

@@ -1,5 +1,5 @@
 use Rattle.std.proofs.Common.{subst, sym}
-use Rattle.hoare_split.specs.ProgramTexts.{IsStopOf}
+use Rattle.whole_program.specs.ProgramTexts.{IsStopOf}
 use Rattle.program_judge.specs.Reports.{ReportsProgram}
 use Rattle.pale_modes.specs.declared.status.Status.{Status}
 use Rattle.pale_top.specs.Checking.{Checks, refused, judged, status_of}

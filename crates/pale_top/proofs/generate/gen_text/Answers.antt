@@ -1,6 +1,6 @@
 use Rattle.std.proofs.Common.{◌≡◌, ◌∙◌, ◌<◌, ◌≤◌, ℕ, List, length, ap, subst, arith}
 use Rattle.pale_generator.specs.Generated.{program_text}
-use Rattle.hoare_split.specs.ProgramTexts.{IsReadAs, IsStopOf}
+use Rattle.whole_program.specs.ProgramTexts.{IsReadAs, IsStopOf}
 use Rattle.pale_modes.specs.declared.status.Status.TheVariants.{Text}
 use Rattle.pale_top.specs.Generating.{Gens, Tells, counted, refused, too_long}
 use Rattle.pale_modes.specs.Report.{too_long_line}

@@ -1,7 +1,7 @@
 use Rattle.std.proofs.Common.{map, sym, ◌∙◌, subst}
 use Rattle.pale_fitting.specs.Declaring.{DeclarationsFit}
 use Rattle.pale_tables.proofs.FaultLemmas.{stop_returned}
-use Rattle.pale_types.specs.declared.basis.Basis.{Basis}
+use Rattle.pale_procedures.specs.declared.basis.Basis.{Basis}
 use Rattle.pale_types.proofs.ProgramLemmas.{declared-fit, list-none, list-stop, typed-is}
 use Rattle.pale_types.proofs.program.read_list.Goals as goal
 

@@ -3,10 +3,9 @@ use Rattle.std.proofs.lemmas.Bool.{OnTrue_at, OnFalse_at}
 use Rattle.std.specs.Prelude.{IfSome}
 use Rattle.store_core.specs.declared.ids.FieldId.{FieldId}
 use Rattle.store_core.specs.declared.ids.CellId.{CellId}
-use Rattle.routing_expr.specs.declared.fault.CutFault.TheVariants as fault
-use Rattle.routing_expr.specs.WellFormed.{IsWrongPlace, IsFirstPlace}
-use Rattle.routing_expr.specs.CutFaults.{IsFirstCutFault, IsSound}
-use Rattle.routing_expr.specs.Judging.{IsRightField}
+use Rattle.routing_walks.specs.declared.fault.CutFault.TheVariants as fault
+use Rattle.routing_walks.specs.WellFormed.{IsWrongPlace, IsFirstPlace, IsRightField}
+use Rattle.routing_walks.specs.CutFaults.{IsFirstCutFault, IsSound}
 use Rattle.routing_expr.proofs.CutLemmas.{none_of, shared_found, leaked_found, wrong_found, none_dangles, none_shared, none_leaks, none_of_found}
 use Rattle.routing_expr.proofs.CutLemmas.{some_of_found, some_of_none, sound_from}
 use Rattle.routing_expr.proofs.cuts.cut_fault.Goals as goal

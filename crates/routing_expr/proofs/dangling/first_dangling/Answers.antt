@@ -1,10 +1,9 @@
 use Rattle.std.proofs.Common.{arith, inl, inr}
 use Rattle.store_core.specs.Stores.{StoreMap}
-use Rattle.routing_expr.specs.declared.fault.Place.{Place}
-use Rattle.routing_expr.specs.WellFormed.{IsDangling, value_at}
-use Rattle.routing_expr.specs.Places.{IsThere}
+use Rattle.routing_walks.specs.declared.fault.Place.{Place}
+use Rattle.routing_walks.specs.WellFormed.{IsDangling, value_at, IsThere}
+use Rattle.routing_walks.proofs.LiveLemmas.{IsSome-and}
 use Rattle.routing_expr.proofs.PlaceLemmas.{first_place}
-use Rattle.routing_expr.proofs.LiveLemmas.{IsSome-and}
 use Rattle.routing_expr.proofs.dangling.first_dangling.Goals as goal
 
 there : (s : StoreMap) (p : Place) → IsDangling s p → IsThere s p

@@ -1,6 +1,6 @@
 use Rattle.std.proofs.Common.{ℕ, ◌<◌, get_or}
-use Rattle.routing_expr.specs.declared.fault.Place.{Place}
-use Rattle.routing_expr.specs.WellFormed.{IsDanglingReference}
+use Rattle.routing_walks.specs.declared.fault.Place.{Place}
+use Rattle.routing_walks.specs.WellFormed.{IsDanglingReference}
 use Rattle.routing_expr.proofs.dangling.has_dangling_reference.Given as goal
 
 abbrev pub invariant-loop-place : goal.invariant-loop-place

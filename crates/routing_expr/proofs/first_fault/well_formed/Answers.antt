@@ -1,10 +1,9 @@
 use Rattle.std.proofs.Common.{◌≡◌, subst, refl, Some, None, Option, IfNone, IfSome}
 use Rattle.store_core.specs.declared.ids.CellId.{CellId}
 use Rattle.store_core.specs.declared.ids.FieldId.{FieldId}
-use Rattle.routing_expr.specs.WellFormed.{IsWrongPlace, IsFirstPlace}
-use Rattle.routing_expr.specs.Judging.{IsRightField}
-use Rattle.routing_expr.proofs.FittingLemmas.{IfSome-at}
-use Rattle.routing_expr.proofs.FaultLemmas.{no_dangling, no_shared, no_leak, well_formed_from}
+use Rattle.store_core.proofs.FittingLemmas.{IfSome-at}
+use Rattle.routing_walks.specs.WellFormed.{IsWrongPlace, IsFirstPlace, IsRightField}
+use Rattle.routing_walks.proofs.FaultLemmas.{no_dangling, no_shared, no_leak, well_formed_from}
 use Rattle.routing_expr.proofs.first_fault.well_formed.Goals as goal
 
 of_some : {X : Type 0} (o : Option X) (P : X → Type 0) (x : X) → o ≡ Some x → IfSome o P → P x

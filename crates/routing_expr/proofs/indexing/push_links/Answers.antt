@@ -1,6 +1,6 @@
 use Rattle.std.proofs.Common.{◌≡◌, ◌∙◌, ap, sym, subst, arith, ◌++◌, ◌∷◌, []}
-use Rattle.routing_expr.specs.Gathering.{Gathers}
-use Rattle.routing_expr.proofs.GatheringLemmas.{Gathers-none, Gathers-start, Gathers-next, Gathers-push, Gathers-alike}
+use Rattle.routing_walks.specs.Gathering.{Gathers}
+use Rattle.routing_walks.proofs.GatheringLemmas.{Gathers-none, Gathers-start, Gathers-next, Gathers-push, Gathers-alike}
 use Rattle.routing_expr.proofs.IndexLemmas.{LinkAt, LinkAt-child, LinkAt-none, LinkAt-all, link}
 use Rattle.routing_expr.proofs.indexing.push_links.Goals as goal
 use Rattle.routing_expr.proofs.indexing.push_links.Goals.{in-Some-child_at+in_ok-push, in_default-child_at}

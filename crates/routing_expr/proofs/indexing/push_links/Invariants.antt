@@ -1,4 +1,4 @@
-use Rattle.routing_expr.specs.Gathering.{Gathers, Before}
+use Rattle.routing_walks.specs.Gathering.{Gathers, Before}
 use Rattle.routing_expr.proofs.IndexLemmas.{LinkAt}
 use Rattle.routing_expr.proofs.indexing.push_links.Given as goal
 

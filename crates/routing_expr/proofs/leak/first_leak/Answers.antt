@@ -1,7 +1,7 @@
 use Rattle.std.proofs.Common.{◌<◌, length, sym, subst}
 use Rattle.std.specs.Prelude.{Contains}
 use Rattle.store_core.specs.declared.ids.VarId.{VarId}
-use Rattle.routing_expr.specs.Sets.{Has}
+use Rattle.routing_walks.specs.Sets.{Has}
 use Rattle.routing_expr.proofs.LeakLemmas.{none_left, first_left}
 use Rattle.routing_expr.proofs.leak.first_leak.Goals as goal
 

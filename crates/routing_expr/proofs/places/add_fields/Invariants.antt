@@ -1,6 +1,7 @@
 use Rattle.std.proofs.Common.{◌⊎◌}
 use Rattle.std.specs.Prelude.{Contains}
-use Rattle.routing_expr.specs.Places.{IsListing, IsFieldBelow, IsThere}
+use Rattle.routing_walks.specs.WellFormed.{IsThere}
+use Rattle.routing_expr.specs.Places.{IsListing, IsFieldBelow}
 use Rattle.routing_expr.proofs.places.add_fields.Given as goal
 
 abbrev pub invariant-loop-index : goal.invariant-loop-index

@@ -1,4 +1,5 @@
-use Rattle.routing_expr.specs.Places.{IsListing, IsOfFirst, IsThere}
+use Rattle.routing_walks.specs.WellFormed.{IsThere}
+use Rattle.routing_expr.specs.Places.{IsListing, IsOfFirst}
 use Rattle.routing_expr.proofs.places.list_places.Given as goal
 
 abbrev pub invariant-loop-place : goal.invariant-loop-place

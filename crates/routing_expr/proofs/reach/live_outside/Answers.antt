@@ -3,8 +3,7 @@ use Rattle.std.specs.Prelude.{option_map}
 use Rattle.std.specs.FinMap.{keys}
 use Rattle.std.proofs.lemmas.Bool.{both_ways}
 use Rattle.store_core.specs.declared.ids.CellId.{CellId}
-use Rattle.routing_expr.specs.Sets.{Has}
-use Rattle.routing_expr.specs.Searches.{Lists}
+use Rattle.routing_walks.specs.Sets.{Has, Lists}
 use Rattle.routing_expr.proofs.ReachLemmas.{IsTakenOfFirst, taken_below, taken_step, left_step, taken_all}
 use Rattle.routing_expr.proofs.reach.live_outside.Goals as goal
 use Rattle.routing_expr.proofs.reach.live_outside.Goals.{then-not-contains+in_ok-push, else-not-contains}

@@ -1,5 +1,4 @@
-use Rattle.routing_expr.specs.Sets.{Has}
-use Rattle.routing_expr.specs.Searches.{Lists}
+use Rattle.routing_walks.specs.Sets.{Has, Lists}
 use Rattle.routing_expr.proofs.ReachLemmas.{IsTakenOfFirst}
 use Rattle.routing_expr.proofs.reach.live_outside.Given as goal
 

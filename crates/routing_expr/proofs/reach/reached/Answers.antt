@@ -1,4 +1,4 @@
-use Rattle.routing_expr.specs.Sets.{Has}
+use Rattle.routing_walks.specs.Sets.{Has}
 use Rattle.std.proofs.Common.{Result, Ok, Err, IfOk}
 use Rattle.routing_expr.proofs.ReachLemmas.{IsPart-taken}
 use Rattle.routing_expr.proofs.reach.reached.Goals as goal

@@ -1,4 +1,4 @@
-use Rattle.routing_expr.specs.Reaching.{IsReach, size_of}
+use Rattle.routing_expr.specs.Reached.{IsReach, size_of}
 use Rattle.routing_expr.proofs.reach.unreached.Given as goal
 
 abbrev pub invariant-loop-cell : goal.invariant-loop-cell

@@ -1,6 +1,6 @@
 use Rattle.std.proofs.Common.{◌↔◌}
 use Rattle.store_core.specs.declared.ids.CellId.{CellId}
-use Rattle.routing_expr.specs.Sets.{Has}
+use Rattle.routing_walks.specs.Sets.{Has}
 use Rattle.routing_expr.proofs.RegionLemmas.{IsOneBelow}
 use Rattle.routing_expr.proofs.region.numbers_of.Given as goal
 

@@ -3,7 +3,7 @@ use Rattle.std.specs.Prelude.{Contains}
 use Rattle.std.specs.Ordering.{nat_cmp}
 use Rattle.std.specs.BTreeSet.{contains}
 use Rattle.store_core.specs.StoreBodies.{IsKept}
-use Rattle.routing_expr.specs.Sets.{Has}
+use Rattle.routing_walks.specs.Sets.{Has}
 use Rattle.routing_expr.proofs.RegionLemmas.{IsKept-on, cells_on}
 use Rattle.routing_expr.proofs.region.store_on.Goals as goal
 

@@ -3,8 +3,8 @@ use Rattle.std.specs.List.Sorted.{IsNonDecreasingBy, IsPermutation}
 use Rattle.std.proofs.lemmas.List.Sorted.{IsNonDecreasingBy-from_sort_by_key}
 use Rattle.std.proofs.lemmas.Option.{slice_get-get_or}
 use Rattle.store_core.specs.declared.ids.CellId.{CellId}
-use Rattle.routing_expr.specs.Gathering.{Before}
-use Rattle.routing_expr.specs.Searches.{Lists}
+use Rattle.routing_walks.specs.Gathering.{Before}
+use Rattle.routing_walks.specs.Sets.{Lists}
 use Rattle.routing_expr.proofs.SpotLemmas.{FirstCell, Lists-none, Lists-next, Lists-all, first-below}
 use Rattle.routing_expr.proofs.search.list_of.Goals as goal
 

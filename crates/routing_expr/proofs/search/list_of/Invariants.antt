@@ -1,5 +1,5 @@
-use Rattle.routing_expr.specs.Gathering.{Before}
-use Rattle.routing_expr.specs.Searches.{Lists}
+use Rattle.routing_walks.specs.Gathering.{Before}
+use Rattle.routing_walks.specs.Sets.{Lists}
 use Rattle.routing_expr.proofs.SpotLemmas.{FirstCell}
 use Rattle.routing_expr.proofs.search.list_of.Given as goal
 

@@ -1,7 +1,7 @@
 use Rattle.std.proofs.Common.{◌≡◌, ◌<◌, ◌≤◌, ◌-◌, length, sym, ◌∙◌, arith, Some}
 use Rattle.store_core.specs.declared.ids.CellId.{CellId}
 use Rattle.store_core.proofs.Bodies.{AllByRecursion-at}
-use Rattle.routing_expr.proofs.GatheringLemmas.{Contains-at}
+use Rattle.routing_walks.proofs.GatheringLemmas.{Contains-at}
 use Rattle.routing_expr.proofs.SpotLemmas.{OnOk-pushed, Lists-kept, below-last, below-none, last-none}
 use Rattle.routing_expr.proofs.search.push_once.Goals as goal
 

@@ -1,6 +1,6 @@
 use Rattle.std.proofs.Common.{IfNone, IfSome, Option, Some, None, ◌↔◌}
 use Rattle.store_core.specs.declared.ids.CellId.{CellId}
-use Rattle.routing_expr.specs.WellFormed.{IsFirstCell}
+use Rattle.routing_walks.specs.WellFormed.{IsFirstCell}
 use Rattle.routing_expr.proofs.shared.first_shared.Goals as goal
 
 none_alike : (o : Option CellId) (P Q : CellId → Type 0) → ((c : CellId) → P c ↔ Q c) → IfNone o ((c : CellId) → P c → ⊥) → IfNone o ((c : CellId) → Q c → ⊥)

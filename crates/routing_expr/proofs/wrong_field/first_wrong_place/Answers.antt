@@ -1,6 +1,6 @@
 use Rattle.std.proofs.Common.{arith}
 use Rattle.std.proofs.lemmas.Bool.{OnTrue_at}
-use Rattle.routing_expr.specs.WellFormed.{IsWrongPlace}
+use Rattle.routing_walks.specs.WellFormed.{IsWrongPlace}
 use Rattle.routing_expr.proofs.PlaceLemmas.{first_place}
 use Rattle.routing_expr.proofs.JudgeLemmas.{not_wrong, wrong_there, all_right}
 use Rattle.routing_expr.proofs.wrong_field.first_wrong_place.Goals as goal

@@ -1,5 +1,5 @@
 use Rattle.std.proofs.Common.{ℕ, ◌<◌, get_or}
-use Rattle.routing_expr.specs.declared.fault.Place.{Place}
+use Rattle.routing_walks.specs.declared.fault.Place.{Place}
 use Rattle.routing_expr.specs.Judging.{IsRightPlace}
 use Rattle.routing_expr.proofs.wrong_field.first_wrong_place.Given as goal
 

@@ -1,4 +1,4 @@
-use Rattle.routing_expr.proofs.FreshLemmas.{IsFresh-well_formed}
+use Rattle.routing_walks.proofs.FreshLemmas.{IsFresh-well_formed}
 use Rattle.store_exec.proofs.KeepLemmas.{IsWell}
 use Rattle.store_exec.proofs.CodesKeepLemmas.{code-keeps}
 use Rattle.store_exec.proofs.RestrictedLemmas.{well_formed-at_cut}

@@ -1,5 +1,5 @@
-use Rattle.routing_laws.specs.Pairing.{IsPair}
-use Rattle.routing_laws.proofs.PairLemmas.{turn, ArePaired-turned}
+use Rattle.routing_walks.specs.Pairing.{IsPair}
+use Rattle.routing_walks.proofs.PairLemmas.{turn, ArePaired-turned}
 use Rattle.store_exec.proofs.RenamedCuts.{AtCut-to, StartHolds-to, Meets-to}
 use Rattle.store_exec.proofs.renaming.renaming_cells_keeps_cuts.Goals as goal
 

@@ -1,4 +1,4 @@
-use Rattle.routing_expr.proofs.KnownLemmas.{Down-known}
+use Rattle.routing_walks.proofs.KnownLemmas.{Down-known}
 use Rattle.store_gallery.proofs.tables.down.Goals as goal
 
 pub returns : goal.returns

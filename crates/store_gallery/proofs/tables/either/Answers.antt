@@ -1,6 +1,6 @@
 use Rattle.std.proofs.Common.{subst, sym}
 use Rattle.store_core.specs.Tables.{KnowsRoute}
-use Rattle.routing_expr.proofs.KnownLemmas.{Or-known}
+use Rattle.routing_walks.proofs.KnownLemmas.{Or-known}
 use Rattle.store_gallery.proofs.tables.either.Goals as goal
 
 pub returns : goal.returns

@@ -1,4 +1,4 @@
-use Rattle.routing_expr.proofs.KnownLemmas.{Up-known}
+use Rattle.routing_walks.proofs.KnownLemmas.{Up-known}
 use Rattle.store_gallery.proofs.tables.up.Goals as goal
 
 pub returns : goal.returns

@@ -1,4 +1,4 @@
-use Rattle.routing_laws.specs.Pairing.{IsPair}
+use Rattle.routing_walks.specs.Pairing.{IsPair}
 use Rattle.store_logic.proofs.RenamingLemmas.{PairsStore-from_ArePaired}
 use Rattle.store_logic.proofs.RenamedLemmas.{Sat-renamed}
 use Rattle.store_logic.proofs.renaming.renaming_cells_keeps_satisfaction.Goals as goal

@@ -3,7 +3,7 @@ use Rattle.std.proofs.lemmas.Bool.{false≢true}
 use Rattle.std.proofs.lemmas.Option.{slice_get-get_or}
 use Rattle.store_core.specs.declared.ids.CellId.{CellId}
 use Rattle.store_core.specs.Stores.{IsLive}
-use Rattle.routing_expr.proofs.GatheringLemmas.{Contains-at}
+use Rattle.routing_walks.proofs.GatheringLemmas.{Contains-at}
 use Rattle.store_sat.proofs.BelowLemmas.{AllBelow-next, AllBelow-all}
 use Rattle.store_sat.proofs.atoms.are_covered.Goals as goal
 

@@ -3,7 +3,7 @@ use Rattle.std.specs.Prelude.{option_map}
 use Rattle.std.specs.FinMap.{keys}
 use Rattle.std.proofs.lemmas.Bool.{both_ways}
 use Rattle.store_core.specs.declared.ids.CellId.{CellId}
-use Rattle.routing_expr.specs.Searches.{Lists}
+use Rattle.routing_walks.specs.Sets.{Lists}
 use Rattle.routing_expr.proofs.ReachLemmas.{IsTakenOfFirst, taken_none, taken_below, taken_step, left_step, taken_all}
 use Rattle.store_sat.proofs.region_cells.rest_of.Goals as goal
 use Rattle.store_sat.proofs.region_cells.rest_of.Goals.{then-not-has+in_ok-push, else-not-has}

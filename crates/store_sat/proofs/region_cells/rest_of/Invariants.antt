@@ -1,5 +1,5 @@
 use Rattle.std.proofs.Common.{Contains}
-use Rattle.routing_expr.specs.Searches.{Lists}
+use Rattle.routing_walks.specs.Sets.{Lists}
 use Rattle.routing_expr.proofs.ReachLemmas.{IsTakenOfFirst}
 use Rattle.store_sat.proofs.region_cells.rest_of.Given as goal
 

@@ -4,9 +4,9 @@ use Rattle.store_core.specs.declared.ids.VarId.{VarId}
 use Rattle.store_core.specs.declared.ids.CellId.{CellId}
 use Rattle.store_core.specs.Tables.{TypeEntry, VarEntry}
 use Rattle.store_core.specs.Stores.{StoreMap}
-use Rattle.routing_expr.specs.Searches.{Lists}
-use Rattle.routing_expr.specs.Regions.{IsPart, IsRest}
-use Rattle.routing_expr.specs.Reaching.{IsUnreached}
+use Rattle.routing_walks.specs.Sets.{Lists}
+use Rattle.routing_walks.specs.Regions.{IsPart, IsRest}
+use Rattle.routing_walks.specs.Reaching.{IsUnreached}
 use Rattle.store_logic.specs.declared.region.Region.{Region}
 use Rattle.store_logic.specs.declared.region.Region.TheVariants as region
 use Rattle.store_logic.specs.Terms.{outside}

@@ -1,4 +1,4 @@
-use Rattle.routing_expr.proofs.KnownLemmas.{UpAny-known}
+use Rattle.routing_walks.proofs.KnownLemmas.{UpAny-known}
 use Rattle.store_tests.proofs.tables.to_parent.Goals as goal
 
 pub returns : goal.returns

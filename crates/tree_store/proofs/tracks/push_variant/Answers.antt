@@ -1,7 +1,7 @@
 use Rattle.std.proofs.Common.{◌≡◌, ◌∙◌, sym, Some, true, IsTrue}
 use Rattle.ws2s_core.specs.declared.track.Track.{Track}
 use Rattle.store_core.specs.declared.ids.VariantId.{VariantId}
-use Rattle.routing_expr.specs.Walks.{IsOfVariant}
+use Rattle.routing_walks.specs.Walks.{IsOfVariant}
 use Rattle.tree_encode.specs.Tracks.{variant_track}
 use Rattle.tree_store.proofs.AddsLemmas.{Adds-same}
 use Rattle.tree_store.proofs.LabelLemmas.{variant-meant}

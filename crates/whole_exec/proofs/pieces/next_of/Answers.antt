@@ -1,6 +1,6 @@
 use Rattle.std.proofs.Common.{IfOk, length, ◌+◌, ◌<◌, ◌++◌, ◌∷◌, [], ap, sym, ◌∙◌, subst}
-use Rattle.pale_types.specs.declared.typed.Stmt.{Stmt}
-use Rattle.pale_types.specs.declared.typed.Stmt.TheVariants as stmt
+use Rattle.pale_typed.specs.declared.typed.Stmt.{Stmt}
+use Rattle.pale_typed.specs.declared.typed.Stmt.TheVariants as stmt
 use Rattle.whole_exec.specs.declared.pieces.Piece.{Piece}
 use Rattle.whole_exec.specs.Standings.{stmts_of, left_of, front, loop_of}
 use Rattle.whole_exec.specs.Turning.{Skips, weight_of}

@@ -1,7 +1,7 @@
 use Rattle.std.proofs.Common.{◌∙◌, is_some, option_map, ap}
 use Rattle.std.proofs.lemmas.Bool.{false≢true}
-use Rattle.pale_types.specs.declared.typed.ProcEntry.{ProcEntry}
-use Rattle.pale_types.specs.declared.typed.TypedProc.{TypedProc}
+use Rattle.pale_typed.specs.declared.typed.ProcEntry.{ProcEntry}
+use Rattle.pale_typed.specs.declared.typed.TypedProc.{TypedProc}
 use Rattle.whole_exec.proofs.Values.{callee_is, back}
 use Rattle.whole_exec.proofs.returning.give_back.Goals as goal
 

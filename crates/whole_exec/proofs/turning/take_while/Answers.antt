@@ -2,7 +2,7 @@ use Rattle.std.proofs.Common.{◌≡◌, List, ◌∷◌, Ok, Err, sym, ap, subs
 use Rattle.store_core.specs.Tables.{TypeEntry}
 use Rattle.store_exec.specs.declared.triple.Cut.{Cut}
 use Rattle.store_exec.specs.Fits.{CutFits}
-use Rattle.pale_types.specs.declared.typed.Stmt.{Stmt}
+use Rattle.pale_typed.specs.declared.typed.Stmt.{Stmt}
 use Rattle.hoare_split.specs.Cuts.{plain_cut}
 use Rattle.whole_run.specs.States.{goes}
 use Rattle.whole_run.specs.Turns.{behind_cut, on_with}

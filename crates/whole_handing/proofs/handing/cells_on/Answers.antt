@@ -3,7 +3,7 @@ use Rattle.std.specs.List.{AllByRecursion}
 use Rattle.std.proofs.lemmas.List.{take_all}
 use Rattle.std.proofs.lemmas.Option.{slice_get-get_or}
 use Rattle.store_core.specs.declared.ids.CellId.{CellId}
-use Rattle.routing_expr.specs.Regions.{has_number}
+use Rattle.routing_walks.specs.Regions.{has_number}
 use Rattle.whole_handing.proofs.RestrictingLemmas.{no_cell, kept_low, kept_more, kept_same}
 use Rattle.whole_handing.proofs.handing.cells_on.Goals as goal
 use Rattle.whole_handing.proofs.handing.cells_on.Goals.{then-is_member+in_ok-push, else-is_member}

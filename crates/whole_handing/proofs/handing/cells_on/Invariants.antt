@@ -1,6 +1,6 @@
 use Rattle.std.proofs.Common.{◌≡◌, take, filter}
 use Rattle.store_core.specs.declared.ids.CellId.{CellId}
-use Rattle.routing_expr.specs.Regions.{has_number}
+use Rattle.routing_walks.specs.Regions.{has_number}
 use Rattle.whole_handing.proofs.handing.cells_on.Given as goal
 
 -- those so far

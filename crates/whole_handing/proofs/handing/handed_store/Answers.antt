@@ -2,7 +2,7 @@ use Rattle.std.proofs.Common.{◌≡◌, List, IfOk, ap, subst}
 use Rattle.std.specs.FinMap.{retain_keys}
 use Rattle.store_core.specs.declared.value.Value.{Value}
 use Rattle.store_core.specs.Stores.{StoreMap}
-use Rattle.routing_expr.specs.Regions.{has_number}
+use Rattle.routing_walks.specs.Regions.{has_number}
 use Rattle.whole_handing.proofs.handing.handed_store.Goals as goal
 
 pub returns : goal.returns

@@ -1,5 +1,5 @@
 use Rattle.std.proofs.Common.{◌≡◌, Some, sym, ◌∙◌}
-use Rattle.pale_types.specs.Fitting.{ProcFits}
+use Rattle.pale_typed.specs.Fitting.{ProcFits}
 use Rattle.hoare_split.proofs.FittingVariableLemmas.{all-at}
 use Rattle.whole_run.proofs.Handed.{some_same}
 use Rattle.whole_run.proofs.HandedStart.{is_well_formed, entry_holds}

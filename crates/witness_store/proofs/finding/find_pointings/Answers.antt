@@ -1,6 +1,6 @@
 use Rattle.std.proofs.Common.{arith, sym, subst, []}
-use Rattle.routing_expr.specs.Gathering.{Gathers, Before}
-use Rattle.routing_expr.proofs.GatheringLemmas.{Gathers-start, Gathers-next, Gathers-alike, HasAll-gathered, HasAll-alike}
+use Rattle.routing_walks.specs.Gathering.{Gathers, Before}
+use Rattle.routing_walks.proofs.GatheringLemmas.{Gathers-start, Gathers-next, Gathers-alike, HasAll-gathered, HasAll-alike}
 use Rattle.witness_store.specs.PointerFinding.{IsPointing}
 use Rattle.witness_store.proofs.FindingLemmas.{PointingOf, PointingOf-cell, PointingOf-all}
 use Rattle.witness_store.proofs.finding.find_pointings.Goals as goal

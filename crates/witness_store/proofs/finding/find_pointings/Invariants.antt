@@ -1,5 +1,5 @@
 use Rattle.std.proofs.Common.{[]}
-use Rattle.routing_expr.specs.Gathering.{Gathers, Before}
+use Rattle.routing_walks.specs.Gathering.{Gathers, Before}
 use Rattle.witness_store.proofs.FindingLemmas.{PointingOf}
 use Rattle.witness_store.proofs.finding.find_pointings.Given as goal
 

@@ -1,8 +1,9 @@
 use Rattle.std.proofs.Common.{◌∙◌, ap, subst, not, Contains}
 use Rattle.std.specs.Prelude.{IsSome}
 use Rattle.store_core.specs.declared.ids.CellId.{CellId}
-use Rattle.routing_expr.specs.Searches.{Ground, Lists}
-use Rattle.routing_expr.specs.Walks.{IsOfType, Walk}
+use Rattle.routing_walks.specs.Sets.{Lists}
+use Rattle.routing_walks.specs.Walks.{IsOfType, Walk}
+use Rattle.routing_expr.specs.Searches.{Ground}
 use Rattle.witness_store.specs.Only.{IsOnlyCell}
 use Rattle.witness_store.proofs.FindingLemmas.{pointing_found, pointing_here, IsSome-map}
 use Rattle.witness_store.proofs.finding.pointing_at.Goals as goal

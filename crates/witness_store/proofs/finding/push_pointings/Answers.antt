@@ -1,6 +1,6 @@
 use Rattle.std.proofs.Common.{◌≡◌, ◌∙◌, ap, sym, subst, arith, ◌++◌, ◌∷◌, []}
-use Rattle.routing_expr.specs.Gathering.{Gathers}
-use Rattle.routing_expr.proofs.GatheringLemmas.{Gathers-none, Gathers-start, Gathers-next, Gathers-push, Gathers-alike}
+use Rattle.routing_walks.specs.Gathering.{Gathers}
+use Rattle.routing_walks.proofs.GatheringLemmas.{Gathers-none, Gathers-start, Gathers-next, Gathers-push, Gathers-alike}
 use Rattle.witness_store.proofs.FindingLemmas.{PointingAt, PointingAt-some, PointingAt-none, PointingAt-all}
 use Rattle.witness_store.proofs.finding.push_pointings.Goals as goal
 use Rattle.witness_store.proofs.finding.push_pointings.Goals.{in-Some-2+in_ok-push, in_default-2}

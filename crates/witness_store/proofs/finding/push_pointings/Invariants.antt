@@ -1,4 +1,4 @@
-use Rattle.routing_expr.specs.Gathering.{Gathers, Before}
+use Rattle.routing_walks.specs.Gathering.{Gathers, Before}
 use Rattle.witness_store.proofs.FindingLemmas.{PointingAt}
 use Rattle.witness_store.proofs.finding.push_pointings.Given as goal
 

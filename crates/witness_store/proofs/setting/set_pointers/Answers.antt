@@ -1,7 +1,7 @@
 use Rattle.std.proofs.Common.{get_or, sym, subst, arith, ◌+◌, None}
 use Rattle.std.proofs.lemmas.Option.{slice_get-get_or}
-use Rattle.routing_expr.specs.Gathering.{HasAll}
-use Rattle.routing_expr.proofs.GatheringLemmas.{Contains-at}
+use Rattle.routing_walks.specs.Gathering.{HasAll}
+use Rattle.routing_walks.proofs.GatheringLemmas.{Contains-at}
 use Rattle.witness_store.specs.declared.finding.Pointing.{Pointing}
 use Rattle.witness_store.specs.PointerFinding.{IsPointing}
 use Rattle.witness_store.proofs.SettingLemmas.{AreSetBefore, same_class, AreSetBefore-next, ArePointersSet-all}

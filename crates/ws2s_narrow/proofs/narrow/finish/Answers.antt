@@ -1,5 +1,5 @@
 use Rattle.std.proofs.Common.{◌∙◌}
-use Rattle.ws2s_narrow.proofs.NarrowLemmas.{finish-more}
+use Rattle.ws2s_narrow.proofs.NextLemmas.{finish-more}
 use Rattle.ws2s_narrow.proofs.narrow.finish.Goals as goal
 
 pub loop-next-preserved : goal.loop-next-preserved

@@ -1,6 +1,6 @@
 use Rattle.std.proofs.Common.{◌≡◌, [], ◌∷◌, ◌++◌, length, reverse, rules, arith}
 use Rattle.std.proofs.lemmas.Grind.{common_steps}
-use Rattle.ws2s_narrow.proofs.NarrowLemmas.{next-inner, next-alone, next-taken, whole-end}
+use Rattle.ws2s_narrow.proofs.NextLemmas.{next-inner, next-alone, next-taken, whole-end}
 use Rattle.ws2s_narrow.proofs.narrow.narrowed_symbols.Goals as goal
 
 pub take-requires-clause-inner : goal.take-requires-clause-inner

@@ -1,9 +1,9 @@
 use Rattle.std.proofs.Common.{rules, arith, sym, subst, []}
 use Rattle.std.proofs.lemmas.List.Sorted.{IsNonDecreasingBy-from_sort_by_key}
+use Rattle.routing_walks.specs.Gathering.{Gathers, Before}
+use Rattle.routing_walks.proofs.GatheringLemmas.{Gathers-start, Gathers-next, Gathers-alike, HasAll-gathered, HasAll-alike}
 use Rattle.routing_expr.specs.declared.links.Link.{Link}
-use Rattle.routing_expr.specs.Gathering.{Gathers, Before}
 use Rattle.routing_expr.specs.Searches.{fields_in, IsLink}
-use Rattle.routing_expr.proofs.GatheringLemmas.{Gathers-start, Gathers-next, Gathers-alike, HasAll-gathered, HasAll-alike}
 use Rattle.routing_expr.proofs.IndexLemmas.{CellAt, CellAt-parent, CellAt-all, HasAll-sorted}
 use Rattle.routing_expr.proofs.links.Links.new.Goals as goal
 

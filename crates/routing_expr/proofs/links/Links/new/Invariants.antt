@@ -1,5 +1,5 @@
 use Rattle.std.proofs.Common.{[]}
-use Rattle.routing_expr.specs.Gathering.{Gathers, Before}
+use Rattle.routing_walks.specs.Gathering.{Gathers, Before}
 use Rattle.routing_expr.proofs.IndexLemmas.{CellAt}
 use Rattle.routing_expr.proofs.links.Links.new.Given as goal
 

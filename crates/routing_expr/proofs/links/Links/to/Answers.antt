@@ -1,10 +1,10 @@
 use Rattle.std.proofs.Common.{rules, arith, ◌≡◌, ◌≤◌, ◌-◌, take, drop, subst, sym, Contains, ltb, leb}
 use Rattle.std.specs.List.Sorted.{IsNonDecreasingBy}
 use Rattle.std.proofs.lemmas.List.Sorted.{IsPartitionPoint-from_clause, IsPartitionedBy-leb, IsPartitionedBy-ltb}
+use Rattle.routing_walks.specs.Gathering.{HasAll}
+use Rattle.routing_walks.proofs.GatheringLemmas.{HasAll-alike}
 use Rattle.routing_expr.specs.declared.links.Link.{Link}
-use Rattle.routing_expr.specs.Gathering.{HasAll}
 use Rattle.routing_expr.proofs.RangeLemmas.{start-le-end, of_key}
-use Rattle.routing_expr.proofs.GatheringLemmas.{HasAll-alike}
 use Rattle.routing_expr.proofs.links.Links.to.Goals as goal
 
 pub slice_bounds-result-count : goal.slice_bounds-result-count

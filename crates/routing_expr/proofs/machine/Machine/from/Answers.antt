@@ -1,8 +1,8 @@
 use Rattle.std.proofs.Common.{rules, arith, ◌≡◌, ◌≤◌, ◌-◌, take, drop, subst, sym, Contains, ltb, leb}
 use Rattle.std.specs.List.Sorted.{IsNonDecreasingBy}
 use Rattle.std.proofs.lemmas.List.Sorted.{IsPartitionPoint-from_clause, IsPartitionedBy-leb, IsPartitionedBy-ltb}
+use Rattle.routing_walks.specs.Gathering.{HasAll}
 use Rattle.routing_expr.specs.declared.machine.Edge.{Edge}
-use Rattle.routing_expr.specs.Gathering.{HasAll}
 use Rattle.routing_expr.proofs.RangeLemmas.{start-le-end, of_key}
 use Rattle.routing_expr.proofs.MachineLemmas.{HasAll-edges}
 use Rattle.routing_expr.proofs.machine.Machine.from.Goals as goal

@@ -1,6 +1,6 @@
 use Rattle.std.proofs.Common.{◌∙◌, sym, subst}
+use Rattle.routing_walks.proofs.GatheringLemmas.{Gathers-both}
 use Rattle.routing_expr.specs.Machines.{arcs_of, IsPlan}
-use Rattle.routing_expr.proofs.GatheringLemmas.{Gathers-both}
 use Rattle.routing_expr.proofs.MachineLemmas.{OnOk-by, IsPlan-either}
 use Rattle.routing_expr.proofs.machine.Plan.add_either.Goals as goal
 

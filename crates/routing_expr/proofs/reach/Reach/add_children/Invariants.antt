@@ -1,5 +1,5 @@
 use Rattle.routing_expr.proofs.ReachLemmas.{IsChildBelow}
-use Rattle.routing_expr.specs.Reaching.{Reaches}
+use Rattle.routing_expr.specs.Reached.{Reaches}
 use Rattle.routing_expr.proofs.reach.Reach.add_children.Given as goal
 
 abbrev pub invariant-loop-index : goal.invariant-loop-index

@@ -1,5 +1,5 @@
 use Rattle.routing_expr.proofs.ReachLemmas.{IsRootBelow}
-use Rattle.routing_expr.specs.Reaching.{Reaches}
+use Rattle.routing_expr.specs.Reached.{Reaches}
 use Rattle.routing_expr.proofs.reach.Reach.add_roots.Given as goal
 
 abbrev pub invariant-loop-root : goal.invariant-loop-root

@@ -1,9 +1,9 @@
 use Rattle.std.proofs.Common.{◌≡◌, ◌++◌, ◌∷◌, [], sym, ap, ◌∙◌, subst, refl, get_or, length, ◌≤◌}
 use Rattle.std.proofs.lemmas.Bool.{false≢true}
 use Rattle.std.proofs.lemmas.Option.{slice_get-get_or}
-use Rattle.routing_expr.specs.Gathering.{Gathers, Before}
+use Rattle.routing_walks.specs.Gathering.{Gathers, Before}
+use Rattle.routing_walks.proofs.GatheringLemmas.{Gathers-none, Gathers-next, Gathers-push, Gathers-alike, HasAll-gathered}
 use Rattle.routing_expr.specs.Spots.{IsAtEnd}
-use Rattle.routing_expr.proofs.GatheringLemmas.{Gathers-none, Gathers-next, Gathers-push, Gathers-alike, HasAll-gathered}
 use Rattle.routing_expr.proofs.StepLemmas.{IfOk-by}
 use Rattle.routing_expr.proofs.SpotLemmas.{SpotCell, SpotCell-one, SpotCell-not, SpotCell-all, Lists-alike, no_spot}
 use Rattle.routing_expr.proofs.search.Search.at_end.Goals as goal

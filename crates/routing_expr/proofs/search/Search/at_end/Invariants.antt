@@ -1,5 +1,5 @@
 use Rattle.std.proofs.Common.{[]}
-use Rattle.routing_expr.specs.Gathering.{Gathers, Before}
+use Rattle.routing_walks.specs.Gathering.{Gathers, Before}
 use Rattle.routing_expr.specs.Spots.{IsAtEnd}
 use Rattle.routing_expr.proofs.SpotLemmas.{SpotCell}
 use Rattle.routing_expr.proofs.search.Search.at_end.Given as goal

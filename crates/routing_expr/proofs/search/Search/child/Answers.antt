@@ -1,6 +1,6 @@
 use Rattle.std.proofs.Common.{sym, subst, refl}
 use Rattle.std.proofs.lemmas.Option.{same_Some}
-use Rattle.routing_expr.specs.Walks.{Leads}
+use Rattle.routing_walks.specs.Walks.{Leads}
 use Rattle.routing_expr.specs.Searches.{fields_in}
 use Rattle.routing_expr.proofs.IndexLemmas.{field-type}
 use Rattle.routing_expr.proofs.search.Search.child.Goals as goal

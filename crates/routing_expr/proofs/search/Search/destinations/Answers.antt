@@ -1,5 +1,5 @@
 use Rattle.std.proofs.Common.{map, sym, ap, subst}
-use Rattle.routing_expr.specs.Walks.{Walk}
+use Rattle.routing_walks.specs.Walks.{Walk}
 use Rattle.routing_expr.specs.Searches.{fields_in}
 use Rattle.routing_expr.specs.Machines.{arc_of}
 use Rattle.routing_expr.proofs.StepLemmas.{IfOk-by}

@@ -1,9 +1,9 @@
 use Rattle.std.proofs.Common.{◌≡◌, sym, subst, get_or}
 use Rattle.std.proofs.lemmas.Option.{slice_get-get_or}
-use Rattle.routing_expr.specs.Gathering.{Grows, HasAll}
+use Rattle.routing_walks.specs.Gathering.{Grows, HasAll}
+use Rattle.routing_walks.proofs.GatheringLemmas.{Grows-start, Grows-next, Grows-alike}
 use Rattle.routing_expr.specs.Searches.{fields_in}
 use Rattle.routing_expr.specs.Machines.{label_of, Takes}
-use Rattle.routing_expr.proofs.GatheringLemmas.{Grows-start, Grows-next, Grows-alike}
 use Rattle.routing_expr.proofs.SpotLemmas.{CellSpot, CellSpot-one, CellSpot-all, Grows-insert, same_spot-true, spot}
 use Rattle.routing_expr.proofs.search.Search.go_along.Goals as goal
 

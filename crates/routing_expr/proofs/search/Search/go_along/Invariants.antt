@@ -1,4 +1,4 @@
-use Rattle.routing_expr.specs.Gathering.{Grows, Before}
+use Rattle.routing_walks.specs.Gathering.{Grows, Before}
 use Rattle.routing_expr.proofs.SpotLemmas.{CellSpot}
 use Rattle.routing_expr.proofs.search.Search.go_along.Given as goal
 

@@ -1,6 +1,6 @@
 use Rattle.std.proofs.lemmas.Option.{slice_get-get_or}
+use Rattle.routing_walks.proofs.GatheringLemmas.{Grows-start, Grows-next, Grows-alike}
 use Rattle.routing_expr.specs.Searches.{fields_in}
-use Rattle.routing_expr.proofs.GatheringLemmas.{Grows-start, Grows-next, Grows-alike}
 use Rattle.routing_expr.proofs.SpotLemmas.{EdgeSpot, EdgeSpot-one, EdgeSpot-all}
 use Rattle.routing_expr.proofs.search.Search.go_on.Goals as goal
 

@@ -1,4 +1,4 @@
-use Rattle.routing_expr.specs.Gathering.{Grows, Before}
+use Rattle.routing_walks.specs.Gathering.{Grows, Before}
 use Rattle.routing_expr.specs.Searches.{fields_in}
 use Rattle.routing_expr.proofs.SpotLemmas.{EdgeSpot}
 use Rattle.routing_expr.proofs.search.Search.go_on.Given as goal

@@ -2,7 +2,7 @@ use Rattle.std.proofs.Common.{◌≡◌, Option, Some, None, is_some, true, sym,
 use Rattle.std.proofs.lemmas.Bool.{false≢true}
 use Rattle.store_core.specs.declared.ids.CellId.{CellId}
 use Rattle.store_core.specs.Stores.{CellEntry, cell_of}
-use Rattle.routing_expr.specs.Walks.{Leads, DataAlone}
+use Rattle.routing_walks.specs.Walks.{Leads, DataAlone}
 use Rattle.routing_expr.proofs.IndexLemmas.{Leads-field, live-mapped}
 use Rattle.routing_expr.proofs.search.Search.is_leaf.Goals as goal
 

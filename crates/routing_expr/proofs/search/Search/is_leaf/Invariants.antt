@@ -1,6 +1,6 @@
 use Rattle.std.proofs.Common.{ℕ, ◌<◌}
 use Rattle.store_core.specs.declared.ids.CellId.{CellId}
-use Rattle.routing_expr.specs.Walks.{DataAlone, Leads}
+use Rattle.routing_walks.specs.Walks.{DataAlone, Leads}
 use Rattle.routing_expr.proofs.search.Search.is_leaf.Given as goal
 
 -- no field so far is a data field that leads to a cell

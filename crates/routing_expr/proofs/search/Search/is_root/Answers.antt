@@ -3,7 +3,7 @@ use Rattle.std.specs.Option.{option_map}
 use Rattle.std.proofs.lemmas.Bool.{false≢true}
 use Rattle.std.proofs.lemmas.Option.{slice_get-get_or}
 use Rattle.store_core.specs.Stores.{CellEntry, cell_of}
-use Rattle.routing_expr.proofs.GatheringLemmas.{below_suc}
+use Rattle.routing_walks.proofs.GatheringLemmas.{below_suc}
 use Rattle.routing_expr.specs.Searches.{fields_in}
 use Rattle.routing_expr.proofs.StepLemmas.{LinkOf, LinkOf-parent, LinkOf-parents, LinkOf-not, IsData, no_link}
 use Rattle.routing_expr.proofs.search.Search.is_root.Goals as goal

@@ -1,5 +1,5 @@
 use Rattle.store_core.specs.declared.ids.CellId.{CellId}
-use Rattle.routing_expr.specs.Gathering.{Before}
+use Rattle.routing_walks.specs.Gathering.{Before}
 use Rattle.routing_expr.proofs.StepLemmas.{LinkOf, IsData}
 use Rattle.routing_expr.proofs.search.Search.is_root.Given as goal
 

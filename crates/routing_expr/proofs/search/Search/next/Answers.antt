@@ -2,11 +2,11 @@ use Rattle.std.proofs.Common.{◌≡◌, IfOk, sym, subst, refl, ap, Some, None}
 use Rattle.std.proofs.lemmas.Bool.{false≢true}
 use Rattle.std.proofs.lemmas.Option.{same_Some}
 use Rattle.store_core.specs.declared.ids.CellId.{CellId}
-use Rattle.routing_expr.specs.Gathering.{HasAll}
+use Rattle.routing_walks.specs.Gathering.{HasAll}
+use Rattle.routing_walks.proofs.WalkLemmas.{Walk-Down, Walk-Up, Walk-UpAny}
+use Rattle.routing_walks.proofs.GatheringLemmas.{HasAll-alike}
 use Rattle.routing_expr.specs.Searches.{fields_in}
 use Rattle.routing_expr.specs.Machines.{label_of, label_of_test, Takes}
-use Rattle.routing_expr.proofs.WalkLemmas.{Walk-Down, Walk-Up, Walk-UpAny}
-use Rattle.routing_expr.proofs.GatheringLemmas.{HasAll-alike}
 use Rattle.routing_expr.proofs.StepLemmas.{IfOk-by, Takes-test}
 use Rattle.routing_expr.proofs.search.Search.next.Goals as goal
 

@@ -2,10 +2,10 @@ use Rattle.std.proofs.Common.{[], ap, ◌∙◌, refl, get_or}
 use Rattle.std.proofs.lemmas.Bool.{false≢true}
 use Rattle.std.proofs.lemmas.Option.{slice_get-get_or}
 use Rattle.store_core.specs.declared.ids.FieldId.{FieldId}
-use Rattle.routing_expr.specs.Walks.{IsNamed}
-use Rattle.routing_expr.specs.Gathering.{Before}
+use Rattle.routing_walks.specs.Walks.{IsNamed}
+use Rattle.routing_walks.specs.Gathering.{Before}
+use Rattle.routing_walks.proofs.GatheringLemmas.{Gathers-next, HasAll-gathered, HasAll-alike}
 use Rattle.routing_expr.specs.Searches.{fields_in}
-use Rattle.routing_expr.proofs.GatheringLemmas.{Gathers-next, HasAll-gathered, HasAll-alike}
 use Rattle.routing_expr.proofs.StepLemmas.{LinkOf, parent-added, parent-left, LinkOf-named, no_link}
 use Rattle.routing_expr.proofs.search.Search.parents.Goals as goal
 use Rattle.routing_expr.proofs.search.Search.parents.Goals.{then-is_named+in_ok-push, else-is_named}

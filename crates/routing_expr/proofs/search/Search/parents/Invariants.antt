@@ -1,6 +1,6 @@
 use Rattle.std.proofs.Common.{[]}
-use Rattle.routing_expr.specs.Walks.{IsNamed}
-use Rattle.routing_expr.specs.Gathering.{Gathers, Before}
+use Rattle.routing_walks.specs.Walks.{IsNamed}
+use Rattle.routing_walks.specs.Gathering.{Gathers, Before}
 use Rattle.routing_expr.proofs.StepLemmas.{LinkOf}
 use Rattle.routing_expr.proofs.search.Search.parents.Given as goal
 

@@ -1,8 +1,8 @@
 use Rattle.std.proofs.Common.{◌↔◌, IsTrue, sym, subst}
+use Rattle.routing_walks.specs.Walks.{IsRoot, IsLeaf, IsOfType, IsOfVariant, HasTruth}
+use Rattle.routing_walks.proofs.WalkLemmas.{Walk-Root, Walk-Leaf, Walk-IsType, Walk-IsVariant, Walk-IsBool}
 use Rattle.routing_expr.specs.Searches.{fields_in}
-use Rattle.routing_expr.specs.Walks.{IsRoot, IsLeaf, IsOfType, IsOfVariant, HasTruth}
 use Rattle.routing_expr.specs.Machines.{label_of_test, Takes}
-use Rattle.routing_expr.proofs.WalkLemmas.{Walk-Root, Walk-Leaf, Walk-IsType, Walk-IsVariant, Walk-IsBool}
 use Rattle.routing_expr.proofs.StepLemmas.{stays-by}
 use Rattle.routing_expr.proofs.search.Search.passes.Goals as goal
 

@@ -3,7 +3,7 @@ use Rattle.std.proofs.lemmas.Bool.{false≢true}
 use Rattle.std.specs.FinMap.{keys}
 use Rattle.store_logic.specs.declared.assertion.Assertion.TheVariants as assertion
 use Rattle.std.specs.Prelude.{IsSomeAnd}
-use Rattle.routing_expr.specs.Walks.{Walk}
+use Rattle.routing_walks.specs.Walks.{Walk}
 use Rattle.routing_expr.specs.Searches.{Ground}
 use Rattle.store_logic.specs.Terms.{cell_at}
 use Rattle.store_logic.specs.Satisfaction.{Says}

@@ -2,8 +2,9 @@ use Rattle.std.proofs.Common.{◌≡◌, ◌↔◌, ◌∙◌, Bool, IsTrue, Lis
 use Rattle.std.specs.List.{AllByRecursion}
 use Rattle.store_core.specs.declared.ids.CellId.{CellId}
 use Rattle.store_core.specs.declared.value.CellList.{CellList}
-use Rattle.routing_expr.specs.Walks.{Walk}
-use Rattle.routing_expr.specs.Searches.{Ground, Lists}
+use Rattle.routing_walks.specs.Walks.{Walk}
+use Rattle.routing_walks.specs.Sets.{Lists}
+use Rattle.routing_expr.specs.Searches.{Ground}
 use Rattle.store_sat.specs.declared.walks.Kept.{Kept}
 use Rattle.store_sat.specs.WalksKept.{AreEnds, ground}
 use Rattle.store_sat.proofs.walks.Walks.is_walk.Goals as goal

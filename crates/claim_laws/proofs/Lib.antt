@@ -1,0 +1,3 @@
+pub mod FitForms
+pub mod LeadLemmas
+mod PutLemmas

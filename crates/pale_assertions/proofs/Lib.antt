@@ -1,2 +1,0 @@
-pub mod AssertionLemmas
-pub mod HeadLemmas

@@ -1,0 +1,4 @@
+pub mod Stated
+pub mod Claims
+pub mod Statements
+pub mod Procedures

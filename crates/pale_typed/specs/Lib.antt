@@ -1,0 +1,3 @@
+pub mod TypedPrograms
+pub mod Variables
+pub mod Fitting

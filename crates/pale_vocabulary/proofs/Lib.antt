@@ -1,0 +1,3 @@
+pub mod AssertionLemmas
+pub mod HeadLemmas
+pub mod NameLemmas

@@ -1,5 +1,0 @@
-use Rattle.routing_expr.proofs.FreshLemmas.{IsFresh-well_formed}
-use Rattle.routing_expr.proofs.laws.well_formed_stores_are_fresh.Goals as goal
-
-pub returns : goal.returns
-returns c = IsFresh-well_formed

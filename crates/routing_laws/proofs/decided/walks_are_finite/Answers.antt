@@ -1,6 +1,0 @@
-use Rattle.routing_laws.proofs.DecidedWalks.{walk_ends}
-use Rattle.routing_laws.proofs.DecidedStores.{dests, part_of, rest_of}
-use Rattle.routing_laws.proofs.decided.walks_are_finite.Goals as goal
-
-pub returns : goal.returns
-returns c = record { ends = walk_ends; destinations = dests; parts = part_of; rests = rest_of }

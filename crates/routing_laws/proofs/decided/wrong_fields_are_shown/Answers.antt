@@ -1,5 +1,0 @@
-use Rattle.routing_laws.proofs.DecidedStores.{only_or_shown, shown_not_only}
-use Rattle.routing_laws.proofs.decided.wrong_fields_are_shown.Goals as goal
-
-pub returns : goal.returns
-returns c = record { either = only_or_shown; not_both = shown_not_only }

@@ -1,5 +1,0 @@
-use Rattle.routing_laws.proofs.PathLemmas.{no_cycle}
-use Rattle.routing_laws.proofs.paths.paths_have_no_cycle.Goals as goal
-
-pub returns : goal.returns
-returns c = λ types vars s fields c backbone h. no_cycle types vars s backbone fields c h

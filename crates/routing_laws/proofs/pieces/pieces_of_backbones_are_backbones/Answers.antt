@@ -1,5 +1,0 @@
-use Rattle.routing_laws.proofs.PieceLemmas.{backbone_on}
-use Rattle.routing_laws.proofs.pieces.pieces_of_backbones_are_backbones.Goals as goal
-
-pub returns : goal.returns
-returns c = λ types vars s cells whole backbone. backbone_on cells s types vars whole backbone

@@ -1,5 +1,0 @@
-use Rattle.routing_laws.proofs.RegionLemmas.{store_on-IsOn}
-use Rattle.routing_laws.proofs.regions.stores_on_sets_have_their_cells.Goals as goal
-
-pub returns : goal.returns
-returns c = store_on-IsOn

@@ -1,5 +1,0 @@
-use Rattle.routing_laws.proofs.RegionLemmas.{walks_alike}
-use Rattle.routing_laws.proofs.regions.walks_see_their_set_alone.Goals as goal
-
-pub returns : goal.returns
-returns c = walks_alike

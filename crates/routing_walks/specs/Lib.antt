@@ -1,0 +1,17 @@
+pub mod Walks
+pub mod Destinations
+pub mod WellFormed
+pub mod CutFaults
+pub mod Sets
+pub mod Regions
+pub mod Reaching
+pub mod Laws
+pub mod Gathering
+pub mod Deciding
+pub mod Paths
+pub mod Shown
+pub mod Pieces
+pub mod Hanging
+pub mod Pairing
+pub mod Refuting
+pub mod Twins
