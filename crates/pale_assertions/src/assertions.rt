@@ -142,7 +142,7 @@ fn read_quantified(
 ///
 /// `Refused` is the first fault from the left.
 #[cycle(assertions)]
-#[tactic(auto, using(pale_vocabulary::proofs::AssertionLemmas::assertion_forms, pale_tables::proofs::FaultLemmas::stops, pale_tables::proofs::FaultLemmas::tails))]
+#[tactic(auto, using(pale_vocabulary::proofs::AssertionLemmas::assertion_forms, crate::proofs::FirstFault::faults))]
 pub fn read_assertion(
     alloc: Global,
     vocabulary: &Vocabulary,
