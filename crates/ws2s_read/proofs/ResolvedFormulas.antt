@@ -14,7 +14,6 @@ use Rattle.ws2s_syntax.specs.declared.name.Successor.{Successor}
 use Rattle.ws2s_syntax.specs.declared.name.Term.{Term}
 use Rattle.ws2s_syntax.specs.declared.name.Argument.{Argument}
 use Rattle.ws2s_syntax.specs.declared.declaration.Class.{Class}
-use Rattle.ws2s_syntax.specs.declared.declaration.Predicate.{Predicate}
 use Rattle.ws2s_syntax.specs.declared.formula.Atom.{Atom}
 use Rattle.ws2s_syntax.specs.declared.formula.Connective.{Connective}
 use Rattle.ws2s_syntax.specs.declared.formula.Quantifier.{Quantifier}
@@ -35,7 +34,7 @@ use Rattle.ws2s_read.specs.declared.names.Meaning.TheVariants as stands_for
 use Rattle.ws2s_syntax.specs.Sentences.{Sentence, negated, joined, each_quantified, sentence_of}
 use Rattle.ws2s_syntax.specs.Checked.{Scope, class_of, is_position_class, is_set_class, is_set, is_term}
 use Rattle.ws2s_syntax.specs.Checked.{is_argument, are_arguments, are_arguments_of, is_atom, class_bound, is_sentence}
-use Rattle.ws2s_read.specs.Resolving.{Found, ◌>>=◌, refused, Names, meaning_of, known_as, known, declared, first_place}
+use Rattle.ws2s_read.specs.Resolving.{Found, ◌>>=◌, refused, Names, meaning_of, known_as, known, first_place}
 use Rattle.ws2s_read.specs.Resolving.{as_variable, resolved_variable, as_set, resolved_set, from_variable, resolved_named}
 use Rattle.ws2s_read.specs.Resolving.{resolved_from, resolved_side, as_position_side, as_set_side, resolved_position}
 use Rattle.ws2s_read.specs.Resolving.{resolved_set_side, as_argument, resolved_argument, resolved_empty, resolved_in}
