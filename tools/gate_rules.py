@@ -31,13 +31,6 @@ STANDING_LINES = {
     "crates/pale_print_laws/proofs/FromProcedures.antt": 529,
     "crates/store_text/proofs/ReadFits.antt": 566,
     "crates/ws2s_narrow/proofs/NarrowLemmas.antt": 508,
-    "crates/ws2s_read/proofs/ResolvedLemmas.antt": 605,
-}
-# Functions with more `?`, with their number: each is one `match` over the forms of a tree, to be split.
-STANDING_QUESTIONS = {
-    ("pale_acts", "read_condition"): 10,
-    ("pale_assertions", "read_assertion"): 16,
-    ("ws2s_read", "resolve_formula"): 18,
 }
 # Calls for a proof alone, by crate: what they tell is true of every value of the type, and no clause that the function
 # requires says it.
@@ -77,9 +70,8 @@ def function_faults(path, text):
     code = COMMENT_OR_TEXT.sub(spaced, text)
     for found in FUNCTION.finditer(code):
         asked, name = found.group(0).count("?"), found.group(2)
-        most = STANDING_QUESTIONS.get((path.relative_to(TOP).parts[1], name), MOST_QUESTIONS)
-        if asked > most:
-            yield path, line_of(code, found.start()), f"{name} has {asked} `?`, and {most} are the most"
+        if asked > MOST_QUESTIONS:
+            yield path, line_of(code, found.start()), f"{name} has {asked} `?`, and {MOST_QUESTIONS} are the most"
 
 
 def call_faults(name, sources):
