@@ -12,6 +12,7 @@ use Rattle.gta_reach.specs.declared.form.Form.{Form}
 use Rattle.gta_classes.specs.declared.part.SpaceClasses.{SpaceClasses}
 use Rattle.gta_reach.specs.declared.sides.Side.{Side}
 use Rattle.gta_reach.specs.Form.{guide_of, states_of, automaton_of}
+use Rattle.gta_reach.specs.Sides.{child_at, opposite, step_by}
 use Rattle.gta_classes.specs.Chosen.{is_marked}
 use Rattle.gta_classes.specs.Classes.{AreClasses}
 

@@ -3,6 +3,7 @@ use Rattle.std.specs.Prelude.{◌≡◌, ℕ, List, map, slice_index}
 use Rattle.bdd_nodes.specs.declared.node_ref.NodeRef.{NodeRef}
 use Rattle.gta_reach.specs.declared.form.FormSpace.{FormSpace}
 use Rattle.gta_reach.specs.declared.sides.Side.{Side}
+use Rattle.gta_reach.specs.Sides.{kinds_in, cell_at}
 use Rattle.gta_classes.specs.Chosen.{IsAmong}
 use Rattle.gta_refine.specs.Numbered.{number_at}
 
