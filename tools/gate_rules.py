@@ -11,8 +11,8 @@ It prints, with file and line, and ends with status 1 at any of these:
   a call that only a proof needs, marked by a comment `Only for its clause ..`
   a row of the gate's table in docs/performance.md for a crate that isn't there, or a crate without a row
   an edit of refusals/ that can't be applied to the files as they are
-What stood there before the rules is listed in STANDING with its number and why it stays: it may shrink, and the entry
-with it, and nothing is added. Only the standard library is used, and it takes a second.
+What stood there before the rules is listed in STANDING_CALLS with its number: it may shrink, and the entry with it, and
+nothing is added. Only the standard library is used, and it takes a second.
 """
 import re
 import sys
@@ -22,23 +22,6 @@ import refusals
 
 TOP = Path(__file__).resolve().parent.parent
 MOST_QUESTIONS, MOST_EDITS, MOST_LINES, MOST_COLUMNS = 7, 8, 500, 160
-# Sources that are longer than the rule, with their lines. Of one whose cases are told by unfolding, a part in another file
-# can't be unfolded there; the others are one chain of lemmas over one set of names.
-STANDING_LINES = {
-    "crates/pale_parse/specs/ParseTable.antt": 687,
-    "crates/pale_print_laws/proofs/Connectives.antt": 557,
-    "crates/pale_print_laws/proofs/FromAssertions.antt": 502,
-    "crates/pale_print_laws/proofs/FromProcedures.antt": 529,
-    "crates/store_text/proofs/ReadFits.antt": 566,
-    "crates/ws2s_narrow/proofs/NarrowLemmas.antt": 508,
-    "crates/ws2s_read/proofs/ResolvedLemmas.antt": 605,
-}
-# Functions with more `?`, with their number: each is one `match` over the forms of a tree, to be split.
-STANDING_QUESTIONS = {
-    ("pale_acts", "read_condition"): 10,
-    ("pale_assertions", "read_assertion"): 16,
-    ("ws2s_read", "resolve_formula"): 18,
-}
 # Calls for a proof alone, by crate: what they tell is true of every value of the type, and no clause that the function
 # requires says it.
 STANDING_CALLS = {
@@ -77,9 +60,8 @@ def function_faults(path, text):
     code = COMMENT_OR_TEXT.sub(spaced, text)
     for found in FUNCTION.finditer(code):
         asked, name = found.group(0).count("?"), found.group(2)
-        most = STANDING_QUESTIONS.get((path.relative_to(TOP).parts[1], name), MOST_QUESTIONS)
-        if asked > most:
-            yield path, line_of(code, found.start()), f"{name} has {asked} `?`, and {most} are the most"
+        if asked > MOST_QUESTIONS:
+            yield path, line_of(code, found.start()), f"{name} has {asked} `?`, and {MOST_QUESTIONS} are the most"
 
 
 def call_faults(name, sources):
@@ -91,9 +73,8 @@ def call_faults(name, sources):
 
 def size_faults(path, text):
     lines = text.splitlines()
-    most = STANDING_LINES.get(str(path.relative_to(TOP)), MOST_LINES)
-    if len(lines) > most:
-        yield path, most + 1, f"{len(lines)} lines, and {most} are the most"
+    if len(lines) > MOST_LINES:
+        yield path, MOST_LINES + 1, f"{len(lines)} lines, and {MOST_LINES} are the most"
     for number, line in enumerate(lines, 1):
         if len(line) > MOST_COLUMNS:
             yield path, number, f"{len(line)} columns, and {MOST_COLUMNS} are the most"

@@ -27,8 +27,8 @@ TOP = Path(__file__).resolve().parent.parent
 PAGE = TOP / "docs" / "performance.md"
 TICKS = os.sysconf("SC_CLK_TCK")
 KINDS = ["check", "tests", "edits"]
-# What one sum of one crate's texts takes in `rt`, which sums a library once for each path that leads to it, twice a build.
-SECONDS_A_SUM = 0.004
+# What one sum of one crate's texts takes in `rt` of a kit that sums a library once for each path that leads to it, twice a build.
+SECONDS_A_SUM = {"rattle-kit-13b": 0.004}
 
 
 def held_by(entry):
@@ -101,8 +101,15 @@ def measured():
     return table
 
 
+def seconds_a_sum():
+    """What a sum takes with the kit on the path: nothing to speak of where each text is summed once."""
+    kit = subprocess.run(["rt", "version"], stdout=subprocess.PIPE, text=True, check=True).stdout.split()[0]
+    return SECONDS_A_SUM.get(kit, 0.0)
+
+
 def tasks_of(known, table):
     """Each task of `rt ci`: what it waits for, its seconds, those in which `rt` sums texts, and its lines."""
+    a_sum = seconds_a_sum()
     own = {name: [one for one in libraries if one in known] for name, libraries in known.items()}
 
     @lru_cache(None)
@@ -114,7 +121,7 @@ def tasks_of(known, table):
         lines = sum(path.read_text().count("\n") for path in source.rglob("*.rt"))
         check, tests, edits = table.get(name, [0.0, 0.0, 0.0])
         below = [one for one in refusals.below(name, known) if one != name]
-        sums = 0.0 if (source / "main.rt").exists() else 2 * SECONDS_A_SUM * paths(name)
+        sums = 0.0 if (source / "main.rt").exists() else 2 * a_sum * paths(name)
         yield (name, "check"), [(one, "check") for one in below], check, sums, lines
         yield (name, "tests"), [(one, "check") for one in below], tests, 0.0, lines if tests else 0
         yield (name, "edits"), [(name, "check"), (name, "tests")], edits, 0.0, lines if edits else 0

@@ -24,9 +24,8 @@ use Rattle.gta_reach.specs.declared.explore.Waiting.{Waiting}
 use Rattle.gta_reach.specs.declared.explore.Kept.{Kept}
 use Rattle.gta_reach.specs.Form.{cell_in, root_in, guide_of, states_of, initial_of, automaton_of, IsForm}
 use Rattle.gta_classes.specs.Chosen.{is_marked}
-use Rattle.gta_reach.specs.Sides.{cell_at, HasRootAt}
+use Rattle.gta_reach.specs.Sides.{cell_at, HasRootAt, child_of, child_at, opposite}
 use Rattle.gta_reach.specs.Reached.{HasRoot, is_reached, AreGenerated}
-use Rattle.gta_reach.specs.Sides.{child_of, child_at, opposite}
 use Rattle.gta_classes.specs.Lists.{list_at, IsAdded}
 use Rattle.gta_classes.specs.Marks.{IsClear}
 use Rattle.gta_reach.specs.Exploring.{with_mark, AreClear, IsGeneratedIn, IsGeneratedAt, GivesGenerated, IsWaiting, KeepsNone, AllKeepNone, AreKept, AreSpaces}

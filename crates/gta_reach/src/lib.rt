@@ -7,10 +7,10 @@
 
 mod explore;
 mod form;
-mod reach;
+mod reached;
 mod sides;
 mod sweep;
 
 pub use form::{Form, FormSpace, FormSpaceList};
-pub use reach::reach;
+pub use reached::reach;
 pub use sides::{Side, above, cell_of, child, kinds_of, listed_of};

@@ -27,11 +27,13 @@ module _ (nodes : List ListedNode) (ordered : AreOrdered nodes) (i : ℕ) (insid
   GivesSome-side states listed side gives = elim side [
     | inl low ↦ record {
       label = with_track gives.label (node_at nodes i).track false;
-      gives = subst (Contains states) (sym (gives-low nodes ordered i inside gives.label ∙ ap (λ (l : Listed). function_in nodes l gives.label) low)) gives.gives;
+      gives = subst (Contains states)
+          (sym (gives-low nodes ordered i inside gives.label ∙ ap (λ (l : Listed). function_in nodes l gives.label) low)) gives.gives;
     }
     | inr high ↦ record {
       label = with_track gives.label (node_at nodes i).track true;
-      gives = subst (Contains states) (sym (gives-high nodes ordered i inside gives.label ∙ ap (λ (l : Listed). function_in nodes l gives.label) high)) gives.gives;
+      gives = subst (Contains states)
+          (sym (gives-high nodes ordered i inside gives.label ∙ ap (λ (l : Listed). function_in nodes l gives.label) high)) gives.gives;
     }
   ]
 

@@ -17,12 +17,11 @@ use Rattle.gta_reach.specs.declared.sides.Side.{Side}
 use Rattle.gta_reach.specs.declared.sides.Side.TheVariants.{Left, Right}
 use Rattle.gta_refine.specs.declared.uses.SpaceUses.{SpaceUses}
 use Rattle.gta_reach.specs.Form.{root_in, guide_of, states_of, automaton_of, IsForm}
-use Rattle.gta_reach.specs.Sides.{kinds_in, cell_at, HasRootAt}
+use Rattle.gta_reach.specs.Sides.{kinds_in, cell_at, HasRootAt, child_at, opposite, step_by}
 use Rattle.gta_classes.specs.Lists.{list_at, Leads}
 use Rattle.gta_refine.specs.Uses.{above_of, HasPlace, side_of, IsOwn, AreSideUses, IsUses}
 use Rattle.gta_refine.specs.Givers.{AreClimbed, AreMembers, Gives, AreGivers}
 use Rattle.gta_refine.specs.Refined.{part_at, is_reached_in, class_at, ArePartition}
-use Rattle.gta_reach.specs.Sides.{child_at, opposite, step_by}
 use Rattle.gta_classes.proofs.ChosenLemmas.{marked-inside}
 use Rattle.gta_reach.proofs.ReachLemmas.{step-at}
 use Rattle.gta_refine.proofs.RowsLemmas.{cell_at-same}

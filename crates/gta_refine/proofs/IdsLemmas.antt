@@ -16,10 +16,8 @@ use Rattle.gta_reach.specs.Form.{root_in, guide_of, automaton_of}
 use Rattle.gta_classes.specs.Chosen.{IsAmong, AreChosen}
 use Rattle.gta_refine.specs.Numbered.{number_at, class_given, TellApart}
 use Rattle.gta_refine.specs.Rows.{row_of, id_of, AreIds}
-use Rattle.gta_reach.specs.Sides.{kinds_in, cell_at}
+use Rattle.gta_reach.specs.Sides.{kinds_in, cell_at, child_at, opposite, step_by}
 use Rattle.gta_refine.specs.Refined.{part_at, is_reached_in, class_at}
-use Rattle.gta_reach.specs.Sides.{child_at}
-use Rattle.gta_reach.specs.Sides.{opposite, step_by}
 use Rattle.gta_refine.specs.Refined.{AreChildIds}
 use Rattle.gta_classes.proofs.ChosenLemmas.{marked-inside}
 use Rattle.gta_reach.proofs.ReachLemmas.{step-at, cell-same}

@@ -24,12 +24,10 @@ use Rattle.gta_reach.specs.declared.sides.Side.TheVariants.{Left, Right}
 use Rattle.gta_reach.specs.Form.{cell_in, guide_of, states_of, initial_of, automaton_of, IsForm}
 use Rattle.gta_classes.specs.Chosen.{is_marked, AreChosen}
 use Rattle.gta_reach.specs.Reached.{is_reached, AreReached, HasRoot}
-use Rattle.gta_reach.specs.Sides.{kinds_in, cell_at, HasRootAt}
+use Rattle.gta_reach.specs.Sides.{kinds_in, cell_at, HasRootAt, child_at, child_of, opposite}
 use Rattle.gta_classes.specs.Classes.{AreClasses, IsSplit}
 use Rattle.gta_refine.specs.Refined.{part_at, is_reached_in, class_at, representative_at, classes_in, quotient_of, ArePartition}
-use Rattle.gta_reach.specs.Sides.{child_at, child_of}
 use Rattle.gta_refine.specs.Refined.{bit_of}
-use Rattle.gta_reach.specs.Sides.{opposite}
 use Rattle.gta_refine.specs.Refined.{IsStableAt, GiveOthersAt, AreChildIds, AreSingle, IsRefined}
 use Rattle.gta_classes.proofs.ChosenLemmas.{marked-inside}
 use Rattle.gta_reach.proofs.ReachLemmas.{many_spaces, initial-form, left-at, right-at, few-states, accepting-form}

@@ -17,12 +17,11 @@ use Rattle.gta_refine.specs.declared.uses.SideUses.{SideUses}
 use Rattle.gta_refine.specs.declared.uses.SpaceUses.{SpaceUses}
 use Rattle.gta_reach.specs.Form.{guide_of, IsForm}
 use Rattle.gta_classes.specs.Chosen.{is_marked, AreChosen}
-use Rattle.gta_reach.specs.Sides.{kinds_in, cell_at}
+use Rattle.gta_reach.specs.Sides.{kinds_in, cell_at, child_at, opposite}
 use Rattle.gta_classes.specs.Lists.{Leads, IsAdded}
 use Rattle.gta_refine.specs.Uses.{above_of, HasPlace, IsAddedAbove, AreAbove, HasBeside, AddsOwner, AreOwners, AreLikes, IsOwn}
 use Rattle.gta_refine.specs.Uses.{AreSideUses, IsUses}
 use Rattle.gta_refine.specs.Refined.{part_at, is_reached_in, ArePartition}
-use Rattle.gta_reach.specs.Sides.{child_at, opposite}
 use Rattle.gta_classes.proofs.ChosenLemmas.{marked-inside}
 use Rattle.gta_reach.proofs.ReachLemmas.{cell-same}
 use Rattle.gta_refine.proofs.RowsLemmas.{cell_at-same}

@@ -13,8 +13,7 @@ use Rattle.gta_refine.specs.declared.uses.SideUses.{SideUses}
 use Rattle.gta_refine.specs.declared.uses.SpaceUses.{SpaceUses}
 use Rattle.gta_reach.specs.Form.{guide_of, states_of, automaton_of}
 use Rattle.gta_classes.specs.Chosen.{is_marked}
-use Rattle.gta_reach.specs.Sides.{kinds_in, cell_at}
-use Rattle.gta_reach.specs.Sides.{child_at, opposite}
+use Rattle.gta_reach.specs.Sides.{kinds_in, cell_at, child_at, opposite}
 use Rattle.gta_classes.specs.Lists.{list_at, Leads}
 
 -- the numbers of what has what is listed, by lists for the leaves and for the nodes

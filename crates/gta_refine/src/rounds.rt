@@ -3,10 +3,9 @@
 ghost use Rattle.std.specs.Prelude.{◌≡◌, ◌<◌, ◌≤◌, ◌^◌, ℕ, true, false, length, map, slice_index, IfOk};
 ghost use Rattle.gta_reach.specs.Form.{IsForm};
 ghost use Rattle.gta_classes.specs.Chosen.{is_marked, AreChosen};
-ghost use Rattle.gta_reach.specs.Sides.{kinds_in};
+ghost use Rattle.gta_reach.specs.Sides.{kinds_in, opposite, child_of};
 ghost use Rattle.gta_classes.specs.Classes.{AreClasses, IsSplit};
 ghost use Rattle.gta_refine.specs.Refined.{part_at, bit_of, room_in, TakesRoom};
-ghost use Rattle.gta_reach.specs.Sides.{opposite, child_of};
 ghost use Rattle.gta_refine.specs.Refined.{AreSingle, ArePartition, AreChildIds, IsStableAt, IsRefined};
 ghost use Rattle.gta_reach.specs.declared.sides.Side.TheVariants.{Left, Right};
 
@@ -15,7 +14,7 @@ use crate::numbers::number_roots;
 use crate::rows::number_rows;
 use crate::uses::uses_of;
 use gta_classes::{SpaceClasses, SpaceClassesList, choose, split};
-use gta_reach::{Form, FormSpace, Side, kinds_of, reach};
+use gta_reach::{Form, FormSpace, Side, child, kinds_of, reach};
 use plain_data::Items;
 use std::alloc::{AllocError, Global};
 

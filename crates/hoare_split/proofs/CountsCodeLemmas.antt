@@ -16,7 +16,7 @@ use Rattle.store_exec.specs.declared.code.Tail.TheVariants.{rolls-Cut, rolls-Bra
 use Rattle.store_exec.specs.declared.code.Tail.TheOpen.{Tail-F}
 use Rattle.store_exec.specs.declared.code.Tail.TheFolds.{fold-Tail, fold-roll-Tail, fold-Code, fold-roll-Code}
 use Rattle.store_exec.specs.Fits.{news_of_item, news_of_tail, news_of_code}
-use Rattle.hoare_split.specs.declared.reached.Point.{Point}
+use Rattle.hoare_split.specs.declared.point.Point.{Point}
 use Rattle.hoare_split.specs.Flows.{Flow, ends, does, branches, place_among, behind, code_in, code_of, points_in, reached_by}
 use Rattle.hoare_split.specs.Counts.{atoms_node, atoms_of_item, atoms_of_tail, atoms_of_code}
 use Rattle.hoare_split.specs.Measures.{atoms_on, news_on}

@@ -22,7 +22,7 @@ use Rattle.store_exec.specs.declared.code.Tail.TheFolds.{rec-roll-Tail, rec-roll
 use Rattle.store_exec.specs.declared.triple.Cut.{Cut}
 use Rattle.store_exec.specs.Fits.{ItemFitsNode, ItemFits, ItemsFit, TailFitsNode, CodeFitsNode, CodeFits, CutFits}
 use Rattle.store_exec.proofs.CanRunLemmas.{TailFits, code-fits}
-use Rattle.hoare_split.specs.declared.reached.Point.{Point}
+use Rattle.hoare_split.specs.declared.point.Point.{Point}
 use Rattle.hoare_split.specs.Flows.{Arrival, Flow, ends, does, branches, after_items, is_point, is_among, arrivals_of, first_of_each, reached_by}
 use Rattle.hoare_split.specs.Flows.{points_in, cuts_of, place_among, code_in, code_of}
 use Rattle.hoare_split.specs.Fitting.{places_at, places_of, AreReadAt}

@@ -9,8 +9,8 @@ use Rattle.store_logic.specs.declared.cond.Cond.{Cond}
 use Rattle.store_exec.specs.declared.code.Item.{Item}
 use Rattle.store_exec.specs.declared.code.Tail.TheVariants as tail
 use Rattle.store_exec.specs.declared.code.Code.{Code, out-Code, roll-Code, roll-out-Code, out-roll-Code}
-use Rattle.hoare_split.specs.declared.reached.Point.{Point}
-use Rattle.hoare_split.specs.declared.reached.Point.TheVariants as point
+use Rattle.hoare_split.specs.declared.point.Point.{Point}
+use Rattle.hoare_split.specs.declared.point.Point.TheVariants as point
 use Rattle.hoare_split.specs.Flows.{Arrival, Flow, ends, does, branches, after_items, is_point, is_among, arrivals_of, first_of_each, points_in, place_among}
 use Rattle.hoare_split.specs.Flows.{behind, code_in}
 

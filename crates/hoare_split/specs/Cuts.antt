@@ -6,7 +6,7 @@ use Rattle.store_exec.specs.declared.triple.Cut.{Cut}
 use Rattle.pale_text.specs.declared.place.Pos.{Pos}
 use Rattle.pale_typed.specs.declared.typed.CallParts.{CallParts}
 use Rattle.pale_typed.specs.declared.typed.ProcEntry.{ProcEntry}
-use Rattle.hoare_split.specs.declared.reached.Point.TheVariants as point
+use Rattle.hoare_split.specs.declared.point.Point.TheVariants as point
 use Rattle.hoare_split.specs.Picking.{those, is_lent}
 use Rattle.hoare_split.specs.Calls.{handed_by, pre_of, on_all, on_part_and_rest}
 use Rattle.hoare_split.specs.Flows.{Arrival}

@@ -6,8 +6,8 @@ use Rattle.store_exec.specs.declared.code.Item.{Item}
 use Rattle.store_exec.specs.declared.code.Tail.TheVariants as tail
 use Rattle.store_exec.specs.declared.code.Code.{Code, out-Code, roll-Code}
 use Rattle.store_exec.specs.declared.triple.Cut.{Cut}
-use Rattle.hoare_split.specs.declared.reached.Point.{Point}
-use Rattle.hoare_split.specs.declared.reached.Point.TheVariants as point
+use Rattle.hoare_split.specs.declared.point.Point.{Point}
+use Rattle.hoare_split.specs.declared.point.Point.TheVariants as point
 
 -- ---- flows
 

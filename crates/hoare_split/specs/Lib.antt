@@ -8,7 +8,6 @@ pub mod Passages
 pub mod Statements
 pub mod Counts
 pub mod Triples
-pub mod Weights
-pub mod Following
+pub mod Callers
 pub mod Measures
 pub mod Fitting

@@ -1,6 +1,7 @@
 //! What stands around the statements of a procedure.
 
-ghost use Rattle.std.specs.Prelude.{◌≡◌};
+ghost use Rattle.std.specs.Prelude.{◌≡◌, slice_get, option_map, IfSome};
+ghost use Rattle.hoare_split.specs.Callers.{procs_of, entry_of};
 ghost use Rattle.hoare_split.specs.Picking.{class_at, is_listed};
 
 use pale_calls::VarClass;
@@ -15,6 +16,22 @@ pub struct Caller<'a> {
     pub number: u32,
     pub vars: &'a VarTable,
     pub proc: &'a TypedProc,
+}
+
+/// A procedure of the program, with its variables; `None` exactly for an unknown one.
+pub fn caller_at(program: &Typed, number: u32) -> Option<Caller<'_>>
+    ensures entry { option_map entry_of result ≡ slice_get program.now.procs number }
+    ensures procs { IfSome result (λ caller. procs_of caller ≡ program.now.procs) }
+    ensures number { IfSome result (λ caller. caller.number ≡ number) }
+{
+    let vars = program.vars(number)?;
+    let proc = program.proc(number)?;
+    Some(Caller {
+        program,
+        number,
+        vars,
+        proc,
+    })
 }
 
 /// The class of a variable; one that isn't there counts as a truth value.

@@ -4,7 +4,7 @@ ghost use Rattle.std.specs.Prelude.{◌≡◌, length, min};
 ghost use Rattle.hoare_split.specs.Picking.{those, is_awaited};
 ghost use Rattle.hoare_split.specs.Flows.{Flow};
 ghost use Rattle.hoare_split.specs.Triples.{count_fault, procedure_fault};
-ghost use Rattle.hoare_split.specs.Following.{procs_of, vars_of, entry_of, statement_in, block_in};
+ghost use Rattle.hoare_split.specs.Callers.{procs_of, vars_of, entry_of, statement_in, block_in};
 ghost use Rattle.hoare_split.specs.Measures.{count_of, or_later, first_fault};
 
 use crate::caller::Caller;
@@ -15,7 +15,7 @@ use pale_text::{Pos, Refusal};
 use pale_typed::{CallParts, Stmt};
 
 /// The first fault of the triples from a place of the text on.
-pub(crate) type Found = Option<Refusal>;
+pub type Found = Option<Refusal>;
 
 /// Looks at the triple that starts at the place, which comes before those that were looked at.
 fn look(place: Pos, code: Count, found: &mut Found)
@@ -90,7 +90,7 @@ fn measure(caller: &Caller<'_>, stmt: &Stmt, rest: Count, found: &mut Found) -> 
 }
 
 /// The first fault of a procedure's triples.
-pub(crate) fn first_fault(caller: &Caller<'_>) -> Found
+pub fn first_fault(caller: &Caller<'_>) -> Found
     ensures { result ≡ procedure_fault (procs_of caller.now) (entry_of caller.now) }
 {
     let mut found = None;

@@ -74,7 +74,7 @@ impl Pick<'_> {
 
 /// The variables of the table that are picked, in its order.
 #[tactic(auto, using(std::proofs::lemmas::List::FromFn::filter_of_map_range_with_len_more))]
-pub(crate) fn picked(alloc: Global, vars: &VarTable, pick: Pick<'_>) -> Result<VarList, AllocError>
+pub fn picked(alloc: Global, vars: &VarTable, pick: Pick<'_>) -> Result<VarList, AllocError>
     ensures { IfOk result (λ found. found ≡ those (test_of pick.entry) vars.now) }
 {
     let mut found = VarList::new(alloc);

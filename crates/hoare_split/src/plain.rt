@@ -11,7 +11,7 @@ use store_exec::{Item, ItemList};
 
 /// Whether the statement is a cut point or has one inside.
 #[cycle(cuts)]
-pub(crate) fn is_cut(stmt: &Stmt) -> bool
+pub fn is_cut(stmt: &Stmt) -> bool
     ensures { (procs : List ProcEntry) (vars : List VarEntry) → result ≡ not (is_some (passage_of procs vars stmt.now).items) }
 {
     match stmt {
@@ -37,7 +37,7 @@ pub(crate) fn has_cut(block: &[Stmt]) -> bool
 
 /// Puts what a statement with no cut inside does at the end of the items. A cut point does nothing.
 #[cycle(items)]
-pub(crate) fn push_item(alloc: Global, stmt: &Stmt, items: &mut ItemList) -> Result<(), AllocError>
+pub fn push_item(alloc: Global, stmt: &Stmt, items: &mut ItemList) -> Result<(), AllocError>
     ensures { OnOk result ((procs : List ProcEntry) (vars : List VarEntry) →
         IfSome (passage_of procs vars stmt.now).items (λ own. items.new ≡ items.old ++ own)) }
 {

@@ -12,7 +12,7 @@ use store_exec::Start;
 use store_logic::{Assertion, VarList};
 
 /// At a `while` or a `split`: the assertion on all cells.
-pub(crate) fn plain_start(alloc: Global, assertion: &Assertion) -> Result<Start, AllocError>
+pub fn plain_start(alloc: Global, assertion: &Assertion) -> Result<Start, AllocError>
     ensures { IfOk result (λ start. start ≡ starts.plain_start assertion.now) }
 {
     Ok(Start {
@@ -24,7 +24,7 @@ pub(crate) fn plain_start(alloc: Global, assertion: &Assertion) -> Result<Start,
 }
 
 /// At the entry: results and locals are null or false, and `pre` holds.
-pub(crate) fn entry_start(alloc: Global, caller: &Caller<'_>) -> Result<Start, AllocError>
+pub fn entry_start(alloc: Global, caller: &Caller<'_>) -> Result<Start, AllocError>
     ensures { IfOk result (λ start. start ≡ starts.entry_start caller.now.vars.now caller.now.proc.now) }
 {
     Ok(Start {
@@ -36,11 +36,7 @@ pub(crate) fn entry_start(alloc: Global, caller: &Caller<'_>) -> Result<Start, A
 }
 
 /// After a call: the callee's `post` on what is returned, and `keep` on the rest.
-pub(crate) fn call_start(
-    alloc: Global,
-    caller: &Caller<'_>,
-    call: &CallParts,
-) -> Result<Start, AllocError>
+pub fn call_start(alloc: Global, caller: &Caller<'_>, call: &CallParts) -> Result<Start, AllocError>
     ensures { IfOk result (λ start. start ≡ starts.call_start caller.now.program.now.procs caller.now.vars.now call.now) }
 {
     let part = returned(alloc, caller.vars, call.results.as_slice())?;

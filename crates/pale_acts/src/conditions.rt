@@ -159,13 +159,31 @@ fn read_each(
     Ok(found)
 }
 
+/// The conditions of a chain, whose first was read before.
+#[cycle(conditions)]
+fn read_others(
+    alloc: Global,
+    types: &TypeTable,
+    scope: &Scope,
+    others: &[Condition],
+    junction: Junction,
+    first: Cond,
+) -> Result<Cond, TextStop>
+    ensures met { OnOk result (first_of (condition_fault types.now scope.now) others.now ≡ None) }
+    ensures condition { IfOk result (λ made. made ≡ chained junction first (map (typed_condition types.now scope.now) others.now)) }
+    ensures stop { IfErr result (IsStop (first_of (condition_fault types.now scope.now) others.now)) }
+{
+    let others = read_each(alloc, types, scope, others)?;
+    Ok(join_all(alloc, junction, first, others)?)
+}
+
 /// A condition with its names looked up.
 ///
 /// # Errors
 ///
 /// `Refused` is the first fault from the left.
 #[cycle(conditions)]
-#[tactic(auto, using(crate::proofs::ConditionLemmas::condition_forms, pale_tables::proofs::FaultLemmas::stops))]
+#[tactic(auto, using(crate::proofs::ConditionLemmas::condition_forms, pale_tables::proofs::FaultLemmas::stops, pale_tables::proofs::FaultLemmas::tails))]
 pub fn read_condition(
     alloc: Global,
     types: &TypeTable,
@@ -194,13 +212,11 @@ pub fn read_condition(
         }
         Condition::And(first, others) => {
             let first = read_condition(alloc, types, scope, first.get())?;
-            let others = read_each(alloc, types, scope, others.as_slice())?;
-            Ok(join_all(alloc, Junction::And, first, others)?)
+            read_others(alloc, types, scope, others.as_slice(), Junction::And, first)
         }
         Condition::Or(first, others) => {
             let first = read_condition(alloc, types, scope, first.get())?;
-            let others = read_each(alloc, types, scope, others.as_slice())?;
-            Ok(join_all(alloc, Junction::Or, first, others)?)
+            read_others(alloc, types, scope, others.as_slice(), Junction::Or, first)
         }
     }
 }

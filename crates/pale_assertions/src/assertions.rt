@@ -2,11 +2,12 @@
 
 ghost use Rattle.std.specs.Prelude.{◌≡◌, None, length, map, take, IfOk, IfErr, OnOk};
 ghost use Rattle.pale_tables.specs.Faults.{first_of, ◌>>◌, IsStop};
+ghost use Rattle.pale_vocabulary.specs.declared.connective.Connective.TheVariants.{Imp};
 ghost use Rattle.pale_vocabulary.specs.Assertions.{assertion_fault, typed_assertion, inside_fault, governed};
+ghost use Rattle.pale_vocabulary.specs.Connectives.{connected, chained, negated};
 ghost use Rattle.pale_vocabulary.specs.Quantifiers.{bound_type, inside};
 
-use crate::arguments::read_use;
-use crate::atoms::{read_is, read_member, read_same, read_subset, read_truth, read_walk};
+use crate::atoms::read_alone;
 use crate::connectives::{connect, connect_all, negate, quantify};
 use crate::quantifiers::bind;
 use pale_syntax::{Assertion as SourceAssertion, Quantifier};
@@ -37,6 +38,60 @@ fn read_each(
         found.push(next)?;
     }
     Ok(found)
+}
+
+/// What denies an assertion.
+#[cycle(assertions)]
+fn read_not(
+    alloc: Global,
+    vocabulary: &Vocabulary,
+    scope: &mut Scope,
+    inner: &SourceAssertion,
+) -> Result<Assertion, TextStop>
+    ensures met { OnOk result (assertion_fault vocabulary.now scope.old inner.now ≡ None) }
+    ensures assertion { IfOk result (λ made. made ≡ negated (typed_assertion vocabulary.now scope.old inner.now)) }
+    ensures scope { scope.new ≡ scope.old }
+    ensures stop { IfErr result (IsStop (assertion_fault vocabulary.now scope.old inner.now)) }
+{
+    let inner = read_assertion(alloc, vocabulary, scope, inner)?;
+    Ok(negate(alloc, inner)?)
+}
+
+/// The assertions of a chain, whose first was read before.
+#[cycle(assertions)]
+fn read_others(
+    alloc: Global,
+    vocabulary: &Vocabulary,
+    scope: &mut Scope,
+    others: &[SourceAssertion],
+    connective: Connective,
+    first: Assertion,
+) -> Result<Assertion, TextStop>
+    ensures met { OnOk result (first_of (assertion_fault vocabulary.now scope.old) others.now ≡ None) }
+    ensures assertion { IfOk result (λ made. made ≡ chained connective first (map (typed_assertion vocabulary.now scope.old) others.now)) }
+    ensures scope { scope.new ≡ scope.old }
+    ensures stop { IfErr result (IsStop (first_of (assertion_fault vocabulary.now scope.old) others.now)) }
+{
+    let others = read_each(alloc, vocabulary, scope, others)?;
+    Ok(connect_all(alloc, connective, first, others)?)
+}
+
+/// The right side of an implication, whose left side was read before.
+#[cycle(assertions)]
+fn read_right(
+    alloc: Global,
+    vocabulary: &Vocabulary,
+    scope: &mut Scope,
+    right: &SourceAssertion,
+    left: Assertion,
+) -> Result<Assertion, TextStop>
+    ensures met { OnOk result (assertion_fault vocabulary.now scope.old right.now ≡ None) }
+    ensures assertion { IfOk result (λ made. made ≡ connected Imp left (typed_assertion vocabulary.now scope.old right.now)) }
+    ensures scope { scope.new ≡ scope.old }
+    ensures stop { IfErr result (IsStop (assertion_fault vocabulary.now scope.old right.now)) }
+{
+    let right = read_assertion(alloc, vocabulary, scope, right)?;
+    Ok(connect(alloc, Connective::Imp, left, right)?)
 }
 
 /// What a quantifier binds, and what it governs. The scope has kept the names that it had, and maybe more.
@@ -87,7 +142,7 @@ fn read_quantified(
 ///
 /// `Refused` is the first fault from the left.
 #[cycle(assertions)]
-#[tactic(auto, using(pale_vocabulary::proofs::AssertionLemmas::assertion_forms, pale_tables::proofs::FaultLemmas::stops))]
+#[tactic(auto, using(pale_vocabulary::proofs::AssertionLemmas::assertion_forms, crate::proofs::FirstFault::faults))]
 pub fn read_assertion(
     alloc: Global,
     vocabulary: &Vocabulary,
@@ -99,55 +154,30 @@ pub fn read_assertion(
     ensures scope { scope.new ≡ scope.old }
     ensures stop { IfErr result (IsStop (assertion_fault vocabulary.now scope.old assertion.now)) }
 {
-    let types = &vocabulary.types;
     match assertion {
-        SourceAssertion::True => Ok(Assertion::True),
-        SourceAssertion::False => Ok(Assertion::False),
-        SourceAssertion::Truth(path) => read_truth(alloc, types, scope, path),
-        SourceAssertion::Same(left, operator, right) => {
-            read_same(alloc, types, scope, left, *operator, right)
-        }
-        SourceAssertion::Differ(left, operator, right) => {
-            let same = read_same(alloc, types, scope, left, *operator, right)?;
-            Ok(negate(alloc, same)?)
-        }
-        SourceAssertion::Member(term, word, set) => {
-            read_member(alloc, types, scope, term, *word, set)
-        }
-        SourceAssertion::Subset(term, word, other) => read_subset(scope, term, *word, other),
-        SourceAssertion::Walk(from, angle, route, to) => {
-            read_walk(alloc, vocabulary, scope, from, *angle, route, to)
-        }
-        SourceAssertion::Is(term, colon, v) => read_is(alloc, types, scope, term, *colon, v),
-        SourceAssertion::Use(name, paths) => {
-            read_use(alloc, vocabulary, scope, name, paths.as_slice())
-        }
-        SourceAssertion::Not(_, inner) => {
-            let inner = read_assertion(alloc, vocabulary, scope, inner.get())?;
-            Ok(negate(alloc, inner)?)
-        }
+        SourceAssertion::Not(_, inner) => read_not(alloc, vocabulary, scope, inner.get()),
         SourceAssertion::And(first, others) => {
             let first = read_assertion(alloc, vocabulary, scope, first.get())?;
-            let others = read_each(alloc, vocabulary, scope, others.as_slice())?;
-            Ok(connect_all(alloc, Connective::And, first, others)?)
+            let others = others.as_slice();
+            read_others(alloc, vocabulary, scope, others, Connective::And, first)
         }
         SourceAssertion::Or(first, others) => {
             let first = read_assertion(alloc, vocabulary, scope, first.get())?;
-            let others = read_each(alloc, vocabulary, scope, others.as_slice())?;
-            Ok(connect_all(alloc, Connective::Or, first, others)?)
+            let others = others.as_slice();
+            read_others(alloc, vocabulary, scope, others, Connective::Or, first)
         }
         SourceAssertion::Imp(left, _, right) => {
             let left = read_assertion(alloc, vocabulary, scope, left.get())?;
-            let right = read_assertion(alloc, vocabulary, scope, right.get())?;
-            Ok(connect(alloc, Connective::Imp, left, right)?)
+            read_right(alloc, vocabulary, scope, right.get(), left)
         }
         SourceAssertion::Iff(first, others) => {
             let first = read_assertion(alloc, vocabulary, scope, first.get())?;
-            let others = read_each(alloc, vocabulary, scope, others.as_slice())?;
-            Ok(connect_all(alloc, Connective::Iff, first, others)?)
+            let others = others.as_slice();
+            read_others(alloc, vocabulary, scope, others, Connective::Iff, first)
         }
         SourceAssertion::Quantified(quantifier, inner) => {
             read_quantified(alloc, vocabulary, scope, quantifier, inner.get())
         }
+        _ => read_alone(alloc, vocabulary, scope, assertion),
     }
 }

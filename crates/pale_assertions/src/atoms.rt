@@ -1,12 +1,18 @@
 //! Assertions that have no others in them.
 
-ghost use Rattle.std.specs.Prelude.{◌≡◌, None, IfOk, IfErr, OnOk};
+ghost use Rattle.std.specs.Prelude.{◌≡◌, false, None, IfOk, IfErr, OnOk};
 ghost use Rattle.pale_tables.specs.Faults.{IsStop};
 ghost use Rattle.pale_terms.specs.Terms.{compared_fault, variant_test_fault};
 ghost use Rattle.pale_vocabulary.specs.Atoms.{truth_fault, truth_of, member_fault, member_of, subset_fault, subset_of, walk_fault, walk_of};
 ghost use Rattle.pale_vocabulary.specs.Atoms.{sets_fault, sets_of, same_of, is_of, is_in_type};
+ghost use Rattle.pale_vocabulary.specs.Assertions.{assertion_fault, typed_assertion};
+ghost use Rattle.pale_assertions.specs.Parts.{has_parts};
 
-use pale_syntax::{Name, Path, Route as SourceRoute, Term as SourceTerm};
+use crate::arguments::read_use;
+use crate::connectives::negate;
+use pale_syntax::{
+    Assertion as SourceAssertion, Name, Path, Route as SourceRoute, Term as SourceTerm,
+};
 use pale_tables::{Followed, need, read_route};
 use pale_terms::{
     Scope, Sort, read_cell, read_compared, read_path, read_reference, read_set, read_set_path,
@@ -20,7 +26,7 @@ use store_logic::Assertion;
 
 /// A path alone, whose truth is asked.
 #[tactic(auto, unfolding(pale_vocabulary::specs::Atoms::truth_fault, pale_vocabulary::specs::Atoms::truth_of))]
-pub fn read_truth(
+fn read_truth(
     alloc: Global,
     types: &TypeTable,
     scope: &Scope,
@@ -37,7 +43,7 @@ pub fn read_truth(
 
 /// `t = u`
 #[tactic(auto, unfolding(pale_vocabulary::specs::Atoms::same_of))]
-pub fn read_same(
+fn read_same(
     alloc: Global,
     types: &TypeTable,
     scope: &Scope,
@@ -65,7 +71,7 @@ fn is_in_type(ty: Option<TypeId>, set: Sort) -> bool
 
 /// `t in S`
 #[tactic(auto, unfolding(pale_vocabulary::specs::Atoms::member_fault, pale_vocabulary::specs::Atoms::member_of))]
-pub fn read_member(
+fn read_member(
     alloc: Global,
     types: &TypeTable,
     scope: &Scope,
@@ -106,7 +112,7 @@ fn read_subset_of(
 }
 
 /// `S sub U`
-pub fn read_subset(
+fn read_subset(
     scope: &Scope,
     term: &SourceTerm,
     word: Pos,
@@ -124,7 +130,7 @@ pub fn read_subset(
 
 /// `t <R> u`
 #[tactic(auto, unfolding(pale_vocabulary::specs::Atoms::walk_fault, pale_vocabulary::specs::Atoms::walk_of))]
-pub fn read_walk(
+fn read_walk(
     alloc: Global,
     vocabulary: &Vocabulary,
     scope: &Scope,
@@ -145,7 +151,7 @@ pub fn read_walk(
 
 /// `t : v`
 #[tactic(auto, unfolding(pale_vocabulary::specs::Atoms::is_of))]
-pub fn read_is(
+fn read_is(
     alloc: Global,
     types: &TypeTable,
     scope: &Scope,
@@ -159,4 +165,44 @@ pub fn read_is(
 {
     let (term, variant) = read_variant_test(alloc, types, scope, term, colon, v)?;
     Ok(Assertion::Is(term.into_term(), variant))
+}
+
+/// An assertion that has no others in it, of any form.
+#[tactic(auto, using(pale_vocabulary::proofs::AssertionLemmas::assertion_forms, pale_tables::proofs::FaultLemmas::stops))]
+pub fn read_alone(
+    alloc: Global,
+    vocabulary: &Vocabulary,
+    scope: &Scope,
+    assertion: &SourceAssertion,
+) -> Result<Assertion, TextStop>
+    requires { has_parts assertion.now ≡ false }
+    ensures met { OnOk result (assertion_fault vocabulary.now scope.now assertion.now ≡ None) }
+    ensures assertion { IfOk result (λ made. made ≡ typed_assertion vocabulary.now scope.now assertion.now) }
+    ensures stop { IfErr result (IsStop (assertion_fault vocabulary.now scope.now assertion.now)) }
+{
+    let types = &vocabulary.types;
+    match assertion {
+        SourceAssertion::True => Ok(Assertion::True),
+        SourceAssertion::False => Ok(Assertion::False),
+        SourceAssertion::Truth(path) => read_truth(alloc, types, scope, path),
+        SourceAssertion::Same(left, operator, right) => {
+            read_same(alloc, types, scope, left, *operator, right)
+        }
+        SourceAssertion::Differ(left, operator, right) => {
+            let same = read_same(alloc, types, scope, left, *operator, right)?;
+            Ok(negate(alloc, same)?)
+        }
+        SourceAssertion::Member(term, word, set) => {
+            read_member(alloc, types, scope, term, *word, set)
+        }
+        SourceAssertion::Subset(term, word, other) => read_subset(scope, term, *word, other),
+        SourceAssertion::Walk(from, angle, route, to) => {
+            read_walk(alloc, vocabulary, scope, from, *angle, route, to)
+        }
+        SourceAssertion::Is(term, colon, v) => read_is(alloc, types, scope, term, *colon, v),
+        SourceAssertion::Use(name, paths) => {
+            read_use(alloc, vocabulary, scope, name, paths.as_slice())
+        }
+        _ => unreachable!(),
+    }
 }

@@ -4,7 +4,7 @@ ghost use Rattle.std.specs.Prelude.{◌<◌, length};
 ghost use Rattle.pale_typed.specs.Fitting.{ProgramFits};
 
 use crate::spelled::push_formula;
-use hoare_split::split;
+use hoare_triples::split;
 use pale_parse::parse;
 use pale_text::{TextStop, lex};
 use pale_typed::Typed;

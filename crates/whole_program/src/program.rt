@@ -5,7 +5,7 @@ ghost use Rattle.pale_typed.specs.Fitting.{ProgramFits};
 ghost use Rattle.hoare_split.specs.Fitting.{FitsProgram, IsShort};
 ghost use Rattle.whole_program.specs.ProgramTexts.{IsReadAs, IsStopOf};
 
-use hoare_split::{TripleList, split};
+use hoare_triples::{TripleList, split};
 use pale_parse::parse;
 use pale_text::{TextStop, lex};
 use pale_typed::Typed;

@@ -12,7 +12,7 @@ use Rattle.pale_typed.specs.declared.typed.ProcEntry.{ProcEntry}
 use Rattle.pale_typed.specs.declared.typed.Stmt.{Stmt, roll-Stmt}
 use Rattle.pale_typed.specs.declared.typed.Stmt.TheOpen.{Stmt-F}
 use Rattle.pale_typed.specs.declared.typed.Stmt.TheFolds.{fold-Stmt, fold-roll-Stmt, map-Stmt, ind-Stmt}
-use Rattle.hoare_split.specs.declared.reached.Point.TheVariants as point
+use Rattle.hoare_split.specs.declared.point.Point.TheVariants as point
 use Rattle.hoare_split.specs.Picking.{is_awaited}
 use Rattle.hoare_split.specs.Settings.{settings}
 use Rattle.hoare_split.specs.Flows.{Arrival, Flow, ends, after_items, arrivals_of}

@@ -15,7 +15,7 @@ use Rattle.store_exec.specs.declared.outcome.Outcome.TheVariants as outcome
 use Rattle.store_exec.specs.Steps.{truth_of}
 use Rattle.store_exec.specs.Runs.{Ending, RunsItem, RunsItems, Follows, Branches, RunsCode}
 use Rattle.store_exec.proofs.CodeLemmas.{RunsTail, RunsCode-is, RunsTail-Cut, RunsTail-Branch}
-use Rattle.hoare_split.specs.declared.reached.Point.{Point}
+use Rattle.hoare_split.specs.declared.point.Point.{Point}
 use Rattle.hoare_split.specs.Flows.{Arrival, Flow, ends, does, branches, place_among, behind, code_in}
 use Rattle.whole_run.specs.FlowRuns.{Leading, arrives, stops, Chosen, RunsFlow, outcome_of}
 

@@ -19,8 +19,8 @@ use Rattle.store_exec.specs.Cuts.{IsWrong, number_of, IsFirstCause, AtCut}
 use Rattle.store_exec.specs.Failing.{Fails}
 use Rattle.pale_text.specs.declared.place.Pos.{Pos}
 use Rattle.pale_typed.specs.declared.typed.ProcEntry.{ProcEntry}
-use Rattle.hoare_split.specs.declared.reached.Point.{Point}
-use Rattle.hoare_split.specs.declared.reached.Point.TheVariants as point
+use Rattle.hoare_split.specs.declared.point.Point.{Point}
+use Rattle.hoare_split.specs.declared.point.Point.TheVariants as point
 use Rattle.hoare_split.specs.Picking.{is_left}
 use Rattle.hoare_split.specs.Settings.{settings}
 use Rattle.hoare_split.specs.Flows.{Arrival, Flow, ends, does, branches, is_point, is_among}

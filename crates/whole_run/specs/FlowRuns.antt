@@ -8,7 +8,7 @@ use Rattle.store_exec.specs.declared.outcome.Outcome.{Outcome}
 use Rattle.store_exec.specs.declared.outcome.Outcome.TheVariants as outcome
 use Rattle.store_exec.specs.Steps.{truth_of}
 use Rattle.store_exec.specs.Runs.{RunsItem}
-use Rattle.hoare_split.specs.declared.reached.Point.{Point}
+use Rattle.hoare_split.specs.declared.point.Point.{Point}
 use Rattle.hoare_split.specs.Flows.{Arrival, Flow, ends, does, branches, place_among}
 
 -- to a cut with a store, or to a cause at its line

@@ -5,7 +5,7 @@ ghost use Rattle.store_core.specs.Tables.{TypeEntry};
 ghost use Rattle.store_core.specs.Stores.{StoreMap};
 ghost use Rattle.store_exec.specs.declared.outcome.Outcome.{Outcome};
 ghost use Rattle.store_exec.specs.Runs.{RunsCode};
-ghost use Rattle.hoare_split.specs.declared.reached.Point.{Point};
+ghost use Rattle.hoare_split.specs.declared.point.Point.{Point};
 ghost use Rattle.hoare_split.specs.Flows.{Flow, code_in};
 ghost use Rattle.whole_run.specs.FlowRuns.{Leading, RunsFlow, outcome_of};
 

@@ -16,23 +16,16 @@ use Rattle.ws2s_syntax.specs.declared.source.SourceFormula.TheVariants.{rolls-Su
 use Rattle.ws2s_syntax.specs.declared.source.SourceFormula.TheVariants.{rolls-Chain, rolls-Quantified}
 use Rattle.ws2s_syntax.specs.declared.source.SourceFormula.TheOpen.{SourceFormula-F}
 use Rattle.ws2s_syntax.specs.declared.source.SourceFormula.TheFolds.{map-SourceFormula, fold-roll-SourceFormula}
-use Rattle.ws2s_read.specs.Resolving.{Found, ◌>>=◌, IsStop, Names, Resolving, resolved_empty, resolved_same, resolved_in}
-use Rattle.ws2s_read.specs.Resolving.{resolved_sub, resolved_use, each_resolved, resolved_quantified, resolved_node}
+use Rattle.ws2s_read.specs.Resolving.{◌>>=◌, IsStop, Names, Resolving, resolved_empty, resolved_same, resolved_in, resolved_sub}
+use Rattle.ws2s_read.specs.Resolving.{resolved_use, stated, denied, resolved_right, resolved_others, resolved_quantified, resolved_node}
 use Rattle.ws2s_read.specs.Resolving.{resolved_formula}
-use Rattle.ws2s_read.proofs.ResolvingLemmas.{found-then, stop-then, stop-after}
+use Rattle.ws2s_read.proofs.ResolvingLemmas.{found-then, stop-then}
 
 at_form : (outer : ℕ) (f : SourceFormula) (x : SourceFormula-F SourceFormula) (names : Names) → f ≡ roll-SourceFormula x →
     resolved_formula outer f names ≡ resolved_node outer (map-SourceFormula SourceFormula Resolving (resolved_formula outer) x) names
 unfolding resolved_formula
 at_form outer f x names is =
     ap (λ g. resolved_formula outer g names) is ∙ ap (λ r. r names) (fold-roll-SourceFormula Resolving (resolved_node outer) x)
-
--- an atom as it is, or its negation
-abbrev pub stated : declared_atom.Atom → Found TextFormula
-stated a = Ok (formula.Atom a)
-
-abbrev pub denied : declared_atom.Atom → Found TextFormula
-denied a = Ok (formula.Not (formula.Atom a))
 
 pub at-Truth : (outer : ℕ) (f : SourceFormula) (b : Bool) (names : Names) → f ≡ Truth b →
     resolved_formula outer f names ≡ Ok (formula.Atom (declared_atom.TheVariants.Truth b))
@@ -70,16 +63,6 @@ pub at-Differ : (outer : ℕ) (f : SourceFormula) (t u : SourceTerm) (names : Na
     resolved_formula outer f names ≡ (resolved_same names t u >>= denied)
 at-Differ outer f t u names is = at_form outer f (SourceFormula-F.Differ t u) names (is ∙ sym (rolls-Differ t u))
 
-pub stop-Differ : (outer : ℕ) (f : SourceFormula) (t u : SourceTerm) (names : Names) (e : TextStop) → f ≡ Differ t u →
-    IsStop (resolved_same names t u) e → IsStop (resolved_formula outer f names) e
-stop-Differ outer f t u names e is stop =
-    subst (λ r. IsStop r e) (sym (at-Differ outer f t u names is)) (stop-then (resolved_same names t u) denied e stop)
-
-pub found-Differ : (outer : ℕ) (f : SourceFormula) (t u : SourceTerm) (names : Names) (a : declared_atom.Atom) → f ≡ Differ t u →
-    (resolved_same names t u) ≡ Ok a → resolved_formula outer f names ≡ Ok (formula.Not (formula.Atom a))
-found-Differ outer f t u names a is found =
-    at-Differ outer f t u names is ∙ found-then (resolved_same names t u) denied a _ found refl
-
 pub at-In : (outer : ℕ) (f : SourceFormula) (t : SourceTerm) (x : SourceName) (names : Names) → f ≡ In t x →
     resolved_formula outer f names ≡ (resolved_in names t x >>= stated)
 at-In outer f t x names is = at_form outer f (SourceFormula-F.In t x) names (is ∙ sym (rolls-In t x))
@@ -97,16 +80,6 @@ found-In outer f t x names a is found =
 pub at-NotIn : (outer : ℕ) (f : SourceFormula) (t : SourceTerm) (x : SourceName) (names : Names) → f ≡ NotIn t x →
     resolved_formula outer f names ≡ (resolved_in names t x >>= denied)
 at-NotIn outer f t x names is = at_form outer f (SourceFormula-F.NotIn t x) names (is ∙ sym (rolls-NotIn t x))
-
-pub stop-NotIn : (outer : ℕ) (f : SourceFormula) (t : SourceTerm) (x : SourceName) (names : Names) (e : TextStop) → f ≡ NotIn t x →
-    IsStop (resolved_in names t x) e → IsStop (resolved_formula outer f names) e
-stop-NotIn outer f t x names e is stop =
-    subst (λ r. IsStop r e) (sym (at-NotIn outer f t x names is)) (stop-then (resolved_in names t x) denied e stop)
-
-pub found-NotIn : (outer : ℕ) (f : SourceFormula) (t : SourceTerm) (x : SourceName) (names : Names) (a : declared_atom.Atom) → f ≡ NotIn t x →
-    (resolved_in names t x) ≡ Ok a → resolved_formula outer f names ≡ Ok (formula.Not (formula.Atom a))
-found-NotIn outer f t x names a is found =
-    at-NotIn outer f t x names is ∙ found-then (resolved_in names t x) denied a _ found refl
 
 pub at-Sub : (outer : ℕ) (f : SourceFormula) (t : SourceTerm) (x : SourceName) (names : Names) → f ≡ Sub t x →
     resolved_formula outer f names ≡ (resolved_sub names t x >>= stated)
@@ -141,13 +114,11 @@ pub at-Not : (outer : ℕ) (f g : SourceFormula) (names : Names) → f ≡ Not g
 at-Not outer f g names is = at_form outer f (SourceFormula-F.Not g) names (is ∙ sym (rolls-Not g))
 
 pub at-Implies : (outer : ℕ) (f g h : SourceFormula) (names : Names) → f ≡ Implies g h →
-    resolved_formula outer f names
-    ≡ (resolved_formula outer g names >>= λ left. resolved_formula outer h names >>= λ right. Ok (formula.Implies left right))
+    resolved_formula outer f names ≡ (resolved_formula outer g names >>= λ left. resolved_right left (resolved_formula outer h) names)
 at-Implies outer f g h names is = at_form outer f (SourceFormula-F.Implies g h) names (is ∙ sym (rolls-Implies g h))
 
 pub at-Chain : (outer : ℕ) (f : SourceFormula) (c : Connective) (g : SourceFormula) (others : List SourceFormula) (names : Names) → f ≡ Chain c g others →
-    resolved_formula outer f names
-    ≡ (resolved_formula outer g names >>= λ first. each_resolved names (map (resolved_formula outer) others) >>= λ rest. Ok (formula.Chain c first rest))
+    resolved_formula outer f names ≡ (resolved_formula outer g names >>= λ first. resolved_others c first (map (resolved_formula outer) others) names)
 at-Chain outer f c g others names is = at_form outer f (SourceFormula-F.Chain c g others) names (is ∙ sym (rolls-Chain c g others))
 
 pub at-Quantified : (outer : ℕ) (f : SourceFormula) (q : Quantifier) (xs : List SourceName) (g : SourceFormula) (names : Names) → f ≡ Quantified q xs g →
@@ -169,64 +140,33 @@ found-Not outer f g lent names inner held is same found boxed =
     ∙ found-then (resolved_formula outer lent names) (λ made. Ok (formula.Not made)) inner _ found (ap (λ made. Ok (formula.Not made)) (sym boxed))
 
 -- two parts, the second where the names are as before
-abbrev both : ℕ → SourceFormula → SourceFormula → Names → Found TextFormula
-both outer g h names =
-    resolved_formula outer g names >>= λ left. resolved_formula outer h names >>= λ right. Ok (formula.Implies left right)
 
 pub stop-Implies : (outer : ℕ) (f g h one : SourceFormula) (names : Names) (e : TextStop) → f ≡ Implies g h → one ≡ g →
     IsStop (resolved_formula outer one names) e → IsStop (resolved_formula outer f names) e
 stop-Implies outer f g h one names e is same stop =
     subst (λ r. IsStop r e) (sym (at-Implies outer f one h names (is ∙ ap (λ k. Implies k h) (sym same))))
-    (stop-then (resolved_formula outer one names) (λ left. resolved_formula outer h names >>= λ right. Ok (formula.Implies left right)) e stop)
+    (stop-then (resolved_formula outer one names) (λ left. resolved_right left (resolved_formula outer h) names) e stop)
 
-pub stop-Implies_right : (outer : ℕ) (f g h one other : SourceFormula) (names after : Names) (left : TextFormula) (e : TextStop) →
-    f ≡ Implies g h → one ≡ g → other ≡ h → after ≡ names → resolved_formula outer one names ≡ Ok left →
-    IsStop (resolved_formula outer other after) e → IsStop (resolved_formula outer f names) e
-stop-Implies_right outer f g h one other names after left e is same_one same_other stay found stop =
-    subst (λ r. IsStop r e) (sym (at-Implies outer f one other names (is ∙ (λ i. Implies (sym same_one i) (sym same_other i)))))
-    (stop-after (resolved_formula outer one names) (λ first. resolved_formula outer other names >>= λ right. Ok (formula.Implies first right)) left e found
-    (stop-then (resolved_formula outer other names) (λ right. Ok (formula.Implies left right)) e
-    (subst (λ n. IsStop (resolved_formula outer other n) e) stay stop)))
-
-pub found-Implies : (outer : ℕ) (f g h one other : SourceFormula) (names after : Names) (left right held_left held_right : TextFormula) →
-    f ≡ Implies g h → one ≡ g → other ≡ h → after ≡ names → resolved_formula outer one names ≡ Ok left →
-    resolved_formula outer other after ≡ Ok right → held_left ≡ left → held_right ≡ right →
-    resolved_formula outer f names ≡ Ok (formula.Implies held_left held_right)
-found-Implies outer f g h one other names after left right held_left held_right is same_one same_other stay found more boxed boxed_too =
-    at-Implies outer f one other names (is ∙ (λ i. Implies (sym same_one i) (sym same_other i)))
-    ∙ found-then (resolved_formula outer one names) (λ first. resolved_formula outer other names >>= λ second. Ok (formula.Implies first second)) left _ found
-    (found-then (resolved_formula outer other names) (λ second. Ok (formula.Implies left second)) right _
-    (ap (resolved_formula outer other) (sym stay) ∙ more) (λ i. Ok (formula.Implies (sym boxed i) (sym boxed_too i))))
+pub same-Implies : (outer : ℕ) (f g h one other : SourceFormula) (names after : Names) (left : TextFormula) → f ≡ Implies g h → one ≡ g → other ≡ h →
+    after ≡ names → resolved_formula outer one names ≡ Ok left → resolved_right left (resolved_formula outer other) after ≡ resolved_formula outer f names
+same-Implies outer f g h one other names after left is same_one same_other stay found =
+    ap (resolved_right left (resolved_formula outer other)) stay
+    ∙ sym (at-Implies outer f one other names (is ∙ (λ i. Implies (sym same_one i) (sym same_other i)))
+    ∙ found-then (resolved_formula outer one names) (λ first. resolved_right first (resolved_formula outer other) names) left _ found refl)
 
 pub stop-Chain : (outer : ℕ) (f : SourceFormula) (c : Connective) (g : SourceFormula) (others : List SourceFormula) (one : SourceFormula) (names : Names)
     (e : TextStop) → f ≡ Chain c g others → one ≡ g → IsStop (resolved_formula outer one names) e → IsStop (resolved_formula outer f names) e
 stop-Chain outer f c g others one names e is same stop =
     subst (λ r. IsStop r e) (sym (at-Chain outer f c one others names (is ∙ ap (λ k. Chain c k others) (sym same))))
-    (stop-then (resolved_formula outer one names)
-    (λ first. each_resolved names (map (resolved_formula outer) others) >>= λ rest. Ok (formula.Chain c first rest)) e stop)
+    (stop-then (resolved_formula outer one names) (λ first. resolved_others c first (map (resolved_formula outer) others) names) e stop)
 
-pub stop-Chain_others : (outer : ℕ) (f : SourceFormula) (c : Connective) (g : SourceFormula) (others : List SourceFormula) (one : SourceFormula)
-    (lent : List SourceFormula) (names after : Names) (first : TextFormula) (e : TextStop) →
-    f ≡ Chain c g others → one ≡ g → lent ≡ others → after ≡ names → resolved_formula outer one names ≡ Ok first →
-    IsStop (each_resolved after (map (resolved_formula outer) lent)) e → IsStop (resolved_formula outer f names) e
-stop-Chain_others outer f c g others one lent names after first e is same_one same_others stay found stop =
-    subst (λ r. IsStop r e) (sym (at-Chain outer f c one lent names (is ∙ (λ i. Chain c (sym same_one i) (sym same_others i)))))
-    (stop-after (resolved_formula outer one names)
-    (λ made. each_resolved names (map (resolved_formula outer) lent) >>= λ rest. Ok (formula.Chain c made rest)) first e found
-    (stop-then (each_resolved names (map (resolved_formula outer) lent)) (λ rest. Ok (formula.Chain c first rest)) e
-    (subst (λ n. IsStop (each_resolved n (map (resolved_formula outer) lent)) e) stay stop)))
-
-pub found-Chain : (outer : ℕ) (f : SourceFormula) (c : Connective) (g : SourceFormula) (others : List SourceFormula) (one : SourceFormula)
-    (lent : List SourceFormula) (names after : Names) (first held : TextFormula) (rest : List TextFormula) →
-    f ≡ Chain c g others → one ≡ g → lent ≡ others → after ≡ names → resolved_formula outer one names ≡ Ok first →
-    each_resolved after (map (resolved_formula outer) lent) ≡ Ok rest → held ≡ first →
-    resolved_formula outer f names ≡ Ok (formula.Chain c held rest)
-found-Chain outer f c g others one lent names after first held rest is same_one same_others stay found more boxed =
-    at-Chain outer f c one lent names (is ∙ (λ i. Chain c (sym same_one i) (sym same_others i)))
-    ∙ found-then (resolved_formula outer one names)
-    (λ made. each_resolved names (map (resolved_formula outer) lent) >>= λ made_rest. Ok (formula.Chain c made made_rest)) first _ found
-    (found-then (each_resolved names (map (resolved_formula outer) lent)) (λ made_rest. Ok (formula.Chain c first made_rest)) rest _
-    (ap (λ n. each_resolved n (map (resolved_formula outer) lent)) (sym stay) ∙ more) (ap (λ made. Ok (formula.Chain c made rest)) (sym boxed)))
+pub same-Chain : (outer : ℕ) (f : SourceFormula) (c : Connective) (g : SourceFormula) (others : List SourceFormula) (one : SourceFormula)
+    (lent : List SourceFormula) (names after : Names) (first : TextFormula) → f ≡ Chain c g others → one ≡ g → lent ≡ others → after ≡ names →
+    resolved_formula outer one names ≡ Ok first → resolved_others c first (map (resolved_formula outer) lent) after ≡ resolved_formula outer f names
+same-Chain outer f c g others one lent names after first is same_one same_others stay found =
+    ap (resolved_others c first (map (resolved_formula outer) lent)) stay
+    ∙ sym (at-Chain outer f c one lent names (is ∙ (λ i. Chain c (sym same_one i) (sym same_others i)))
+    ∙ found-then (resolved_formula outer one names) (λ made. resolved_others c made (map (resolved_formula outer) lent) names) first _ found refl)
 
 pub same-Quantified : (outer : ℕ) (f : SourceFormula) (q : Quantifier) (xs : List SourceName) (g : SourceFormula) (lent : List SourceName)
     (inner : SourceFormula) (names : Names) → f ≡ Quantified q xs g → lent ≡ xs → inner ≡ g →

@@ -1,4 +1,5 @@
 mod FormsLemmas
+mod ResolvedFormulas
 mod ResolvedLemmas
 mod ResolvingLemmas
 mod TextLemmas

@@ -22,6 +22,7 @@ use Rattle.ws2s_syntax.specs.declared.declaration.Class.{Class}
 use Rattle.ws2s_syntax.specs.declared.declaration.Class.TheVariants as class
 use Rattle.ws2s_syntax.specs.declared.formula.Atom.{Atom}
 use Rattle.ws2s_syntax.specs.declared.formula.Atom.TheVariants as atom
+use Rattle.ws2s_syntax.specs.declared.formula.Connective.{Connective}
 use Rattle.ws2s_syntax.specs.declared.formula.Quantifier.{Quantifier}
 use Rattle.ws2s_syntax.specs.declared.formula.TextFormula.{TextFormula}
 use Rattle.ws2s_syntax.specs.declared.formula.TextFormula.TheVariants as formula
@@ -29,7 +30,7 @@ use Rattle.ws2s_syntax.specs.declared.source.SourceName.{SourceName}
 use Rattle.ws2s_syntax.specs.declared.source.SourceBase.{SourceBase}
 use Rattle.ws2s_syntax.specs.declared.source.SourceBase.TheVariants as source_base
 use Rattle.ws2s_syntax.specs.declared.source.SourceTerm.{SourceTerm}
-use Rattle.ws2s_syntax.specs.declared.source.SourceFormula.{SourceFormula}
+use Rattle.ws2s_syntax.specs.declared.source.SourceFormula.{SourceFormula, out-SourceFormula}
 use Rattle.ws2s_syntax.specs.declared.source.SourceFormula.TheOpen.{SourceFormula-F}
 use Rattle.ws2s_syntax.specs.declared.source.SourceFormula.TheFolds.{fold-SourceFormula}
 use Rattle.ws2s_syntax.specs.declared.source.SourceParameter.{SourceParameter}
@@ -222,6 +223,27 @@ each_resolved names [] = Ok []
 each_resolved names (f ∷ formulas) =
     f names >>= λ first. each_resolved names formulas >>= λ others. Ok (first ∷ others)
 
+-- an atom as it is, and what denies it
+abbrev pub stated : Atom → Found TextFormula
+stated a = Ok (formula.Atom a)
+
+abbrev pub denied : Atom → Found TextFormula
+denied a = Ok (formula.Not (formula.Atom a))
+
+abbrev pub resolved_differ : Names → SourceTerm → SourceTerm → Found TextFormula
+resolved_differ names t u = resolved_same names t u >>= denied
+
+abbrev pub resolved_not_in : Names → SourceTerm → SourceName → Found TextFormula
+resolved_not_in names t x = resolved_in names t x >>= denied
+
+-- the right side of an implication, whose left side is resolved
+abbrev pub resolved_right : TextFormula → Resolving → Resolving
+resolved_right left g names = g names >>= λ right. Ok (formula.Implies left right)
+
+-- the others of a chain, whose first is resolved
+abbrev pub resolved_others : Connective → TextFormula → List Resolving → Resolving
+resolved_others c first others names = each_resolved names others >>= λ rest. Ok (formula.Chain c first rest)
+
 -- a quantifier's names come first, and are visible in what it governs alone
 abbrev pub resolved_quantified : ℕ → Quantifier → List SourceName → Resolving → Resolving
 resolved_quantified outer q bound_names f names =
@@ -230,18 +252,35 @@ resolved_quantified outer q bound_names f names =
 -- the parts from the left
 abbrev pub resolved_node : ℕ → SourceFormula-F Resolving → Resolving
 resolved_node outer (SourceFormula-F.Truth b) names = Ok (formula.Atom (atom.Truth b))
-resolved_node outer (SourceFormula-F.Empty x) names = resolved_empty names x >>= λ a. Ok (formula.Atom a)
-resolved_node outer (SourceFormula-F.Same t u) names = resolved_same names t u >>= λ a. Ok (formula.Atom a)
-resolved_node outer (SourceFormula-F.Differ t u) names = resolved_same names t u >>= λ a. Ok (formula.Not (formula.Atom a))
-resolved_node outer (SourceFormula-F.In t x) names = resolved_in names t x >>= λ a. Ok (formula.Atom a)
-resolved_node outer (SourceFormula-F.NotIn t x) names = resolved_in names t x >>= λ a. Ok (formula.Not (formula.Atom a))
-resolved_node outer (SourceFormula-F.Sub t x) names = resolved_sub names t x >>= λ a. Ok (formula.Atom a)
-resolved_node outer (SourceFormula-F.Use p terms) names = resolved_use names p terms >>= λ a. Ok (formula.Atom a)
+resolved_node outer (SourceFormula-F.Empty x) names = resolved_empty names x >>= stated
+resolved_node outer (SourceFormula-F.Same t u) names = resolved_same names t u >>= stated
+resolved_node outer (SourceFormula-F.Differ t u) names = resolved_differ names t u
+resolved_node outer (SourceFormula-F.In t x) names = resolved_in names t x >>= stated
+resolved_node outer (SourceFormula-F.NotIn t x) names = resolved_not_in names t x
+resolved_node outer (SourceFormula-F.Sub t x) names = resolved_sub names t x >>= stated
+resolved_node outer (SourceFormula-F.Use p terms) names = resolved_use names p terms >>= stated
 resolved_node outer (SourceFormula-F.Not f) names = f names >>= λ inner. Ok (formula.Not inner)
-resolved_node outer (SourceFormula-F.Implies f g) names = f names >>= λ left. g names >>= λ right. Ok (formula.Implies left right)
-resolved_node outer (SourceFormula-F.Chain c f others) names =
-    f names >>= λ first. each_resolved names others >>= λ rest. Ok (formula.Chain c first rest)
+resolved_node outer (SourceFormula-F.Implies f g) names = f names >>= λ left. resolved_right left g names
+resolved_node outer (SourceFormula-F.Chain c f others) names = f names >>= λ first. resolved_others c first others names
 resolved_node outer (SourceFormula-F.Quantified q bound_names f) names = resolved_quantified outer q bound_names f names
+
+-- whether a formula has parts
+abbrev pub has_parts_in : {Part : Type 0} → SourceFormula-F Part → Bool
+has_parts_in (SourceFormula-F.Truth b) = false
+has_parts_in (SourceFormula-F.Empty x) = false
+has_parts_in (SourceFormula-F.Same t u) = false
+has_parts_in (SourceFormula-F.Differ t u) = false
+has_parts_in (SourceFormula-F.In t x) = false
+has_parts_in (SourceFormula-F.NotIn t x) = false
+has_parts_in (SourceFormula-F.Sub t x) = false
+has_parts_in (SourceFormula-F.Use p terms) = false
+has_parts_in (SourceFormula-F.Not f) = true
+has_parts_in (SourceFormula-F.Implies f g) = true
+has_parts_in (SourceFormula-F.Chain c f others) = true
+has_parts_in (SourceFormula-F.Quantified q bound_names f) = true
+
+abbrev pub has_parts : SourceFormula → Bool
+has_parts f = has_parts_in (out-SourceFormula f)
 
 -- a formula of an item, outside of which `outer` names are visible
 unfoldable pub resolved_formula : ℕ → SourceFormula → Resolving

@@ -1,20 +1,22 @@
 //! Formulas without parts.
 
-ghost use Rattle.std.specs.Prelude.{◌≡◌, length, IfOk, IfErr};
+ghost use Rattle.std.specs.Prelude.{◌≡◌, ℕ, length, false, IfOk, IfErr};
+ghost use Rattle.ws2s_syntax.specs.declared.formula.TextFormula.TheVariants as text_formula;
 ghost use Rattle.ws2s_read.specs.Resolving.{IsStop, resolved_empty, resolved_in, resolved_sub, resolved_same, resolved_arguments, resolved_use};
+ghost use Rattle.ws2s_read.specs.Resolving.{resolved_differ, resolved_not_in, has_parts, resolved_formula};
 
 use crate::names::{Meaning, Names, refused};
 use crate::terms::{
     first_place, resolve_argument, resolve_position, resolve_set, resolve_set_side, resolve_side,
 };
 use pale_text::{RefusalKind, TextStop};
-use plain_data::Items;
-use std::alloc::Global;
-use ws2s_syntax::{Argument, Atom, Class, SourceName, SourceTerm};
+use plain_data::{Boxed, Items};
+use std::alloc::{AllocError, Global};
+use ws2s_syntax::{Argument, Atom, Class, SourceFormula, SourceName, SourceTerm, TextFormula};
 
 /// A set that is empty.
 #[tactic(auto, unfolding(crate::specs::Resolving::resolved_empty))]
-pub fn resolve_empty(names: &Names, set: &SourceName) -> Result<Atom, TextStop>
+fn resolve_empty(names: &Names, set: &SourceName) -> Result<Atom, TextStop>
     ensures atom { IfOk result (λ found. resolved_empty names.now set.now ≡ Ok found) }
     ensures stop { IfErr result (IsStop (resolved_empty names.now set.now)) }
 {
@@ -23,7 +25,7 @@ pub fn resolve_empty(names: &Names, set: &SourceName) -> Result<Atom, TextStop>
 
 /// A position in a set.
 #[tactic(auto, unfolding(crate::specs::Resolving::resolved_in))]
-pub fn resolve_in(
+fn resolve_in(
     alloc: Global,
     names: &Names,
     term: &SourceTerm,
@@ -38,7 +40,7 @@ pub fn resolve_in(
 
 /// A set within a set.
 #[tactic(auto, unfolding(crate::specs::Resolving::resolved_sub))]
-pub fn resolve_sub(
+fn resolve_sub(
     alloc: Global,
     names: &Names,
     term: &SourceTerm,
@@ -53,7 +55,7 @@ pub fn resolve_sub(
 
 /// Two positions or two sets: the right side has the class of the left.
 #[tactic(auto, unfolding(crate::specs::Resolving::resolved_same))]
-pub fn resolve_same(
+fn resolve_same(
     alloc: Global,
     names: &Names,
     left: &SourceTerm,
@@ -92,7 +94,7 @@ fn resolve_arguments(
 
 /// A predicate of its arguments: their number is looked at first, and then each from the left.
 #[tactic(auto, unfolding(crate::specs::Resolving::resolved_use))]
-pub fn resolve_use(
+fn resolve_use(
     alloc: Global,
     names: &Names,
     name: &SourceName,
@@ -110,5 +112,75 @@ pub fn resolve_use(
             let arguments = resolve_arguments(alloc, names, classes.as_slice(), terms)?;
             Ok(Atom::Use(*predicate, arguments))
         }
+    }
+}
+
+/// What denies an atom.
+fn negated(alloc: Global, atom: Atom) -> Result<TextFormula, AllocError>
+    ensures { IfOk result (λ made. made ≡ text_formula.Not (text_formula.Atom atom)) }
+{
+    Ok(TextFormula::Not(Boxed::new(alloc, TextFormula::Atom(atom))?))
+}
+
+/// Two terms that differ.
+fn resolve_differ(
+    alloc: Global,
+    names: &Names,
+    left: &SourceTerm,
+    right: &SourceTerm,
+) -> Result<TextFormula, TextStop>
+    ensures formula { IfOk result (λ found. resolved_differ names.now left.now right.now ≡ Ok found) }
+    ensures stop { IfErr result (IsStop (resolved_differ names.now left.now right.now)) }
+{
+    let same = resolve_same(alloc, names, left, right)?;
+    Ok(negated(alloc, same)?)
+}
+
+/// A position that isn't in a set.
+fn resolve_not_in(
+    alloc: Global,
+    names: &Names,
+    term: &SourceTerm,
+    set: &SourceName,
+) -> Result<TextFormula, TextStop>
+    ensures formula { IfOk result (λ found. resolved_not_in names.now term.now set.now ≡ Ok found) }
+    ensures stop { IfErr result (IsStop (resolved_not_in names.now term.now set.now)) }
+{
+    let within = resolve_in(alloc, names, term, set)?;
+    Ok(negated(alloc, within)?)
+}
+
+/// A formula without parts.
+pub fn resolve_alone(
+    alloc: Global,
+    names: &Names,
+    formula: &SourceFormula,
+) -> Result<TextFormula, TextStop>
+    requires { has_parts formula.now ≡ false }
+    ensures formula { (outer : ℕ) → IfOk result (λ found. resolved_formula outer formula.now names.now ≡ Ok found) }
+    ensures stop { (outer : ℕ) → IfErr result (IsStop (resolved_formula outer formula.now names.now)) }
+{
+    match formula {
+        SourceFormula::Truth(value) => Ok(TextFormula::Atom(Atom::Truth(*value))),
+        SourceFormula::Empty(set) => Ok(TextFormula::Atom(resolve_empty(names, set)?)),
+        SourceFormula::Same(left, right) => {
+            let atom = resolve_same(alloc, names, left, right)?;
+            Ok(TextFormula::Atom(atom))
+        }
+        SourceFormula::Differ(left, right) => resolve_differ(alloc, names, left, right),
+        SourceFormula::In(term, set) => {
+            let atom = resolve_in(alloc, names, term, set)?;
+            Ok(TextFormula::Atom(atom))
+        }
+        SourceFormula::NotIn(term, set) => resolve_not_in(alloc, names, term, set),
+        SourceFormula::Sub(term, set) => {
+            let atom = resolve_sub(alloc, names, term, set)?;
+            Ok(TextFormula::Atom(atom))
+        }
+        SourceFormula::Use(name, terms) => {
+            let atom = resolve_use(alloc, names, name, terms.as_slice())?;
+            Ok(TextFormula::Atom(atom))
+        }
+        _ => unreachable!(),
     }
 }

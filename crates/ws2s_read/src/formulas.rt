@@ -1,18 +1,17 @@
 //! Formulas of any form.
 
 ghost use Rattle.std.specs.Prelude.{◌≡◌, map, length, IfOk, IfErr, OnOk};
-ghost use Rattle.ws2s_syntax.specs.declared.formula.TextFormula.TheVariants as text_formula;
 ghost use Rattle.ws2s_syntax.specs.Checked.{class_bound};
-ghost use Rattle.ws2s_read.specs.Resolving.{IsStop, bound, all_bound, parameters_bound, each_resolved, resolved_formula, resolved_quantified};
+ghost use Rattle.ws2s_read.specs.Resolving.{IsStop, bound, all_bound, parameters_bound, each_resolved, resolved_right, resolved_others};
+ghost use Rattle.ws2s_read.specs.Resolving.{resolved_quantified, resolved_formula};
 
-use crate::atoms::{resolve_empty, resolve_in, resolve_same, resolve_sub, resolve_use};
+use crate::atoms::resolve_alone;
 use crate::names::{Meaning, Names, number};
 use pale_text::TextStop;
 use plain_data::{Boxed, Items};
-use std::alloc::{AllocError, Global};
+use std::alloc::Global;
 use ws2s_syntax::{
-    Atom, Class, Connective, Name, Quantifier, SourceFormula, SourceName, SourceParameter,
-    TextFormula,
+    Class, Connective, Name, Quantifier, SourceFormula, SourceName, SourceParameter, TextFormula,
 };
 
 /// What a quantifier's names stand for.
@@ -66,30 +65,61 @@ pub fn bind_parameters(
     Ok(())
 }
 
-fn negated(alloc: Global, atom: Atom) -> Result<TextFormula, AllocError>
-    ensures { IfOk result (λ made. made ≡ text_formula.Not (text_formula.Atom atom)) }
+/// Formulas, one after the other.
+#[cycle(resolving)]
+fn resolve_each(
+    alloc: Global,
+    names: &mut Names,
+    outer: usize,
+    formulas: &[SourceFormula],
+) -> Result<Items<TextFormula>, TextStop>
+    ensures formulas { IfOk result (λ found. each_resolved names.old (map (resolved_formula outer) formulas.now) ≡ Ok found) }
+    ensures stop { IfErr result (IsStop (each_resolved names.old (map (resolved_formula outer) formulas.now))) }
+    ensures names_stay { OnOk result (names.new ≡ names.old) }
 {
-    Ok(TextFormula::Not(Boxed::new(alloc, TextFormula::Atom(atom))?))
+    let mut resolved = Items::new(alloc);
+    for formula in formulas {
+        let next = resolve_formula(alloc, names, outer, formula)?;
+        resolved.push(next)?;
+    }
+    Ok(resolved)
 }
 
-/// The others of a chain.
+/// The right side of an implication, whose left side was resolved before.
+#[cycle(resolving)]
+fn resolve_right(
+    alloc: Global,
+    names: &mut Names,
+    outer: usize,
+    right: &SourceFormula,
+    left: TextFormula,
+) -> Result<TextFormula, TextStop>
+    ensures formula { IfOk result (λ found. resolved_right left (resolved_formula outer right.now) names.old ≡ Ok found) }
+    ensures stop { IfErr result (IsStop (resolved_right left (resolved_formula outer right.now) names.old)) }
+    ensures names_stay { OnOk result (names.new ≡ names.old) }
+{
+    let left = Boxed::new(alloc, left)?;
+    let right = resolve_formula(alloc, names, outer, right)?;
+    Ok(TextFormula::Implies(left, Boxed::new(alloc, right)?))
+}
+
+/// The others of a chain, whose first was resolved before.
 #[cycle(resolving)]
 fn resolve_others(
     alloc: Global,
     names: &mut Names,
     outer: usize,
     others: &[SourceFormula],
-) -> Result<Items<TextFormula>, TextStop>
-    ensures formulas { IfOk result (λ found. each_resolved names.old (map (resolved_formula outer) others.now) ≡ Ok found) }
-    ensures stop { IfErr result (IsStop (each_resolved names.old (map (resolved_formula outer) others.now))) }
+    connective: Connective,
+    first: TextFormula,
+) -> Result<TextFormula, TextStop>
+    ensures formula { IfOk result (λ found. resolved_others connective first (map (resolved_formula outer) others.now) names.old ≡ Ok found) }
+    ensures stop { IfErr result (IsStop (resolved_others connective first (map (resolved_formula outer) others.now) names.old)) }
     ensures names_stay { OnOk result (names.new ≡ names.old) }
 {
-    let mut resolved = Items::new(alloc);
-    for other in others {
-        let formula = resolve_formula(alloc, names, outer, other)?;
-        resolved.push(formula)?;
-    }
-    Ok(resolved)
+    let first = Boxed::new(alloc, first)?;
+    let others = resolve_each(alloc, names, outer, others)?;
+    Ok(TextFormula::Chain(connective, first, others))
 }
 
 /// The bound names first, in order, and then what the quantifier governs, where they are visible.
@@ -127,51 +157,23 @@ pub fn resolve_formula(
     ensures names_stay { OnOk result (names.new ≡ names.old) }
 {
     match formula {
-        SourceFormula::Truth(value) => Ok(TextFormula::Atom(Atom::Truth(*value))),
-        SourceFormula::Empty(set) => Ok(TextFormula::Atom(resolve_empty(names, set)?)),
-        SourceFormula::Same(left, right) => {
-            let atom = resolve_same(alloc, names, left, right)?;
-            Ok(TextFormula::Atom(atom))
-        }
-        SourceFormula::Differ(left, right) => {
-            let atom = resolve_same(alloc, names, left, right)?;
-            Ok(negated(alloc, atom)?)
-        }
-        SourceFormula::In(term, set) => {
-            let atom = resolve_in(alloc, names, term, set)?;
-            Ok(TextFormula::Atom(atom))
-        }
-        SourceFormula::NotIn(term, set) => {
-            let atom = resolve_in(alloc, names, term, set)?;
-            Ok(negated(alloc, atom)?)
-        }
-        SourceFormula::Sub(term, set) => {
-            let atom = resolve_sub(alloc, names, term, set)?;
-            Ok(TextFormula::Atom(atom))
-        }
-        SourceFormula::Use(name, terms) => {
-            let atom = resolve_use(alloc, names, name, terms.as_slice())?;
-            Ok(TextFormula::Atom(atom))
-        }
         SourceFormula::Not(inner) => {
             let formula = resolve_formula(alloc, names, outer, inner.get())?;
             Ok(TextFormula::Not(Boxed::new(alloc, formula)?))
         }
         SourceFormula::Implies(left, right) => {
-            let one = resolve_formula(alloc, names, outer, left.get())?;
-            let boxed = Boxed::new(alloc, one)?;
-            let other = resolve_formula(alloc, names, outer, right.get())?;
-            Ok(TextFormula::Implies(boxed, Boxed::new(alloc, other)?))
+            let left = resolve_formula(alloc, names, outer, left.get())?;
+            resolve_right(alloc, names, outer, right.get(), left)
         }
         SourceFormula::Chain(connective, first, others) => {
-            let one = resolve_formula(alloc, names, outer, first.get())?;
-            let boxed = Boxed::new(alloc, one)?;
-            let more = resolve_others(alloc, names, outer, others.as_slice())?;
-            Ok(TextFormula::Chain(*connective, boxed, more))
+            let first = resolve_formula(alloc, names, outer, first.get())?;
+            let others = others.as_slice();
+            resolve_others(alloc, names, outer, others, *connective, first)
         }
         SourceFormula::Quantified(quantifier, bound, inner) => {
             let names_bound = bound.as_slice();
             resolve_quantified(alloc, names, outer, *quantifier, names_bound, inner.get())
         }
+        _ => resolve_alone(alloc, names, formula),
     }
 }

@@ -9,10 +9,9 @@ use Rattle.gta_classes.specs.declared.part.SpaceClasses.{SpaceClasses}
 use Rattle.gta_reach.specs.Form.{guide_of}
 use Rattle.gta_classes.specs.Chosen.{IsAmong, AreChosen}
 use Rattle.gta_refine.specs.Rows.{AreIds}
-use Rattle.gta_reach.specs.Sides.{kinds_in}
+use Rattle.gta_reach.specs.Sides.{kinds_in, child_of, child_at, opposite}
 use Rattle.gta_refine.specs.Numbered.{TellApart}
 use Rattle.gta_refine.specs.Refined.{part_at}
-use Rattle.gta_reach.specs.Sides.{child_of, child_at, opposite}
 use Rattle.gta_classes.proofs.ChosenLemmas.{marked-inside}
 use Rattle.gta_refine.proofs.RefineLemmas.{child-inside, child-kinds, child-few, child-is, child-chosen, has_root-at, root-inside, small-classes}
 use Rattle.gta_refine.proofs.RefineLemmas.{ordered-nodes, roots-inside}

@@ -7,10 +7,9 @@ use Rattle.gta_reach.specs.declared.sides.Side.{Side}
 use Rattle.gta_refine.specs.declared.uses.SideUses.{SideUses}
 use Rattle.gta_reach.specs.Form.{guide_of}
 use Rattle.gta_classes.specs.Chosen.{AreChosen}
-use Rattle.gta_reach.specs.Sides.{kinds_in}
+use Rattle.gta_reach.specs.Sides.{kinds_in, child_of, child_at, opposite}
 use Rattle.gta_refine.specs.Uses.{AreOwners, AreLikes, AreSideUses}
 use Rattle.gta_refine.specs.Refined.{part_at}
-use Rattle.gta_reach.specs.Sides.{child_of, child_at, opposite}
 use Rattle.gta_classes.proofs.ListsLemmas.{Contains-among}
 use Rattle.gta_refine.proofs.RefineLemmas.{child-inside, child-kinds, child-few, child-is, child-chosen, has_root-at}
 use Rattle.gta_refine.proofs.UsesLemmas.{AreSideUses-chosen}

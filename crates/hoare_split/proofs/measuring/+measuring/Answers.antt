@@ -1,7 +1,7 @@
 use Rattle.std.proofs.Common.{◌≡◌, sym, ap, ◌∙◌, subst}
 use Rattle.std.proofs.lemmas.Bool.{false≢true}
 use Rattle.hoare_split.specs.Statements.{block_of}
-use Rattle.hoare_split.specs.Following.{procs_of, vars_of}
+use Rattle.hoare_split.specs.Callers.{procs_of, vars_of}
 use Rattle.hoare_split.proofs.MeasuresFlowLemmas.{together}
 use Rattle.hoare_split.proofs.MeasuresStatementLemmas.{zero_count, Measured, measured-Skip, measured-Do, measured-branch, measured-plain}
 use Rattle.hoare_split.proofs.MeasuresStatementLemmas.{measured-While, measured-Split, measured-Call, passed-one}

@@ -1,5 +1,5 @@
 use Rattle.std.proofs.Common.{length}
-use Rattle.hoare_split.specs.Following.{procs_of, vars_of}
+use Rattle.hoare_split.specs.Callers.{procs_of, vars_of}
 use Rattle.hoare_split.proofs.MeasuresStatementLemmas.{Passed}
 use Rattle.hoare_split.proofs.measuring.+measuring.Given as goal
 

@@ -1,7 +1,7 @@
 use Rattle.std.proofs.Common.{None, min, ap, ◌∙◌, subst}
 use Rattle.hoare_split.specs.declared.counts.Count.{Count}
 use Rattle.hoare_split.specs.Statements.{block_of}
-use Rattle.hoare_split.specs.Following.{procs_of, vars_of}
+use Rattle.hoare_split.specs.Callers.{procs_of, vars_of}
 use Rattle.hoare_split.proofs.MeasuresStatementLemmas.{Measured, measured-procedure}
 use Rattle.hoare_split.proofs.measuring.first_fault.Goals as goal
 

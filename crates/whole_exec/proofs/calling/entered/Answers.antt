@@ -2,7 +2,7 @@ use Rattle.std.proofs.Common.{◌∙◌, ◌++◌, List, option_map, is_some, sy
 use Rattle.std.proofs.lemmas.Bool.{false≢true}
 use Rattle.std.proofs.lemmas.List.{append-nil}
 use Rattle.pale_typed.specs.declared.typed.Stmt.{Stmt}
-use Rattle.hoare_split.specs.Following.{entry_of}
+use Rattle.hoare_split.specs.Callers.{entry_of}
 use Rattle.whole_exec.specs.declared.pieces.Piece.{Piece}
 use Rattle.whole_exec.specs.Standings.{left_of}
 use Rattle.whole_exec.proofs.calling.entered.Goals as goal

@@ -1,6 +1,0 @@
-use Rattle.hoare_split.proofs.SplittingLemmas.{SplitUpto}
-use Rattle.hoare_split.proofs.splitting.split.Given as goal
-
--- the procedures before this one have no fault, and their triples are there
-abbrev pub invariant-loop-number : goal.invariant-loop-number
-invariant-loop-number l = SplitUpto l.t l.number l.triples

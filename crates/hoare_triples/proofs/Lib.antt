@@ -1,0 +1,6 @@
+mod CodeLemmas
+mod ReachLemmas
+mod WeightLemmas
+mod FollowingLemmas
+mod PointLemmas
+mod SplittingLemmas
