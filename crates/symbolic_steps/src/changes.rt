@@ -16,7 +16,7 @@ use crate::walker::{Walker, define, happens, next_track, reached, set_value, val
 use graph_view::{Event, Sym};
 use std::alloc::{AllocError, Global};
 use store_core::{FieldId, VarId, VarKind, VarTable, VariantId};
-use store_logic::{Path, Rhs};
+use store_logic::{Act, Path, Rhs};
 use tree_encode::Layout;
 use ws2s_core::Formula;
 use ws2s_forms::{later, slot};
