@@ -1,199 +1,98 @@
-//! The tables of all tests, and stores over them as texts. A change that a table doesn't allow is refused.
+//! The programs of all tests, whose first procedure has the variables of stores, and stores over them as texts.
 
-ghost use Rattle.std.specs.Prelude.{◌≡◌, ◌<◌, length, List, None, IsTrue, IfOk};
-ghost use Rattle.store_core.specs.Tables.{TypeEntry, place_of, field_names, fields_of, owner_type, KnowsOwner, KnowsRoute};
+ghost use Rattle.std.specs.Prelude.{◌<◌, length, IfOk};
 ghost use Rattle.store_core.specs.Stores.{Fits};
 
-use std::alloc::Global;
+use pale_parse::parse;
+use pale_text::{TextStop, lex};
+use pale_types::{Typed, check_types};
+use plain_writer::Writer;
+use std::alloc::{AllocError, Global};
 use std::test::Fail;
-use store_core::{
-    FieldId, FieldKind, Owner, Route, Store, TypeId, TypeTable, VarKind, VarTable, VariantId,
-};
-use store_text::{read_store, read_stores_fit};
+use store_core::{Store, TypeId, TypeTable, VarTable, VariantId};
+use store_logic::Assertion;
+use store_text::{read_store, read_stores_fit, store_text};
 
-/// `type Node = { data next: Node; pointer prev: Node [^]; bool mark; }`
+/// The types of all tests.
+const TYPES: &[u8] = b"type Node = { data next: Node; pointer prev: Node [^]; bool mark; }
+type Tree = { pointer up: Tree [^]; } | leaf { bool ripe; } | node { data left: Tree; data right: Tree; bool red; }
+";
+
 pub(crate) const NODE: TypeId = TypeId(0);
 
-/// `type Tree = { pointer up: Tree [^]; } | leaf { bool ripe; } | node { data left: Tree; data right: Tree; bool red; }`
-pub(crate) const TREE: TypeId = TypeId(1);
-
-pub(crate) const LEAF: VariantId = VariantId { ty: TREE, index: 0 };
-
-const BRANCH: VariantId = VariantId { ty: TREE, index: 1 };
-
-/// The fields `next` and `prev` of nodes.
-pub(crate) const NEXT: FieldId = FieldId { ty: NODE, index: 0 };
-
-pub(crate) const PREV: FieldId = FieldId { ty: NODE, index: 1 };
-
-/// The fields `left` and `red` of trees.
-pub(crate) const LEFT: FieldId = FieldId { ty: TREE, index: 2 };
-
-pub(crate) const RED: FieldId = FieldId { ty: TREE, index: 4 };
+pub(crate) const LEAF: VariantId = VariantId {
+    ty: TypeId(1),
+    index: 0,
+};
 
 /// The variables of most stores.
-pub(crate) static VARS: &[(&str, VarKind)] = &[
-    ("x", VarKind::Data(NODE)),
-    ("y", VarKind::Data(NODE)),
-    ("p", VarKind::Pointer(NODE)),
-    ("t", VarKind::Data(TREE)),
-    ("q", VarKind::Pointer(TREE)),
-    ("S", VarKind::LogicSet(NODE)),
-    ("U", VarKind::LogicSet(NODE)),
-    ("b", VarKind::Bool),
-    ("v", VarKind::LogicBool),
-];
+pub(crate) const VARS: &[u8] =
+    b"proc p(data x: Node, data y: Node, pointer p: Node, data t: Tree, pointer q: Tree, bool b) \
+        logic set S: Node, set U: Node, bool v";
 
-/// `data x: Node; set S: Node; bool b`
-pub(crate) static SHORT: &[(&str, VarKind)] = &[
-    ("x", VarKind::Data(NODE)),
-    ("S", VarKind::LogicSet(NODE)),
-    ("b", VarKind::Bool),
-];
+/// The variables of others.
+pub(crate) const SHORT: &[u8] = b"proc p(data x: Node, bool b) logic set S: Node";
 
 /// A tree of two nodes and a leaf, of which `q` is the right node, and two lists of one node each.
 pub(crate) const TREE_LINES: &str =
-    "var x 4\nvar y 5\nvar p null\nvar t 1\nvar q 3\nvar S {4 5}\nvar U {}\nvar b false\nvar v true\n\
+    "store\nvar x 4\nvar y 5\nvar p null\nvar t 1\nvar q 3\nvar S {4 5}\nvar U {}\nvar b false\nvar v true\n\
         cell 1 Tree:node up=null left=2 right=3 red=true\ncell 2 Tree:leaf up=1 ripe=true\n\
         cell 3 Tree:node up=1 left=null right=null red=false\ncell 4 Node next=null prev=null mark=false\n\
-        cell 5 Node next=null prev=null mark=false\n";
+        cell 5 Node next=null prev=null mark=false\nend\n";
 
-fn add_type(types: &mut TypeTable, name: &str) -> Result<(), Fail> {
-    if types.find_type(name.as_bytes()).is_some() || types.types() > 9 {
-        return Err("no new type".into());
-    }
-    types.add_type(name.as_bytes())?;
-    Ok(())
-}
-
-fn add_variant(types: &mut TypeTable, name: &str) -> Result<(), Fail> {
-    let name = name.as_bytes();
-    if TREE.0 >= types.types()
-        || types.find_variant(TREE, name).is_some()
-        || types.variants(TREE) > 9
-    {
-        return Err("no new variant".into());
-    }
-    types.add_variant(TREE, name)?;
-    Ok(())
-}
-
-fn type_of(owner: Owner) -> TypeId
-    ensures { result ≡ owner_type owner }
+fn typed_of(alloc: Global, text: &[u8]) -> Result<Typed, TextStop>
+    requires { length text.now < u32.MAX }
 {
-    match owner {
-        Owner::Common(ty) => ty,
-        Owner::Variant(v) => v.ty,
+    let list = lex(alloc, text)?;
+    let program = parse(alloc, &list)?;
+    check_types(alloc, &program)
+}
+
+/// The text of a program of these types whose procedure has these variables and this precondition.
+fn text_of(alloc: Global, vars: &[u8], pre: &[u8]) -> Result<Vec<u8>, AllocError> {
+    let mut text = Writer::new(alloc);
+    text.push_all(TYPES);
+    text.push_all(vars);
+    text.push_all(b" pre [");
+    text.push_all(pre);
+    text.push_all(b"] { }");
+    text.finish()
+}
+
+/// The program of these types whose procedure has these variables and this precondition.
+pub(crate) fn program_of(alloc: Global, vars: &[u8], pre: &str) -> Result<Typed, Fail> {
+    let text = text_of(alloc, vars, pre.as_bytes())?;
+    if text.len() > 1000 {
+        return Err("a long program".into());
+    }
+    Ok(typed_of(alloc, &text)?)
+}
+
+/// The variables of the procedure of such a program.
+pub(crate) fn vars_of(typed: &Typed) -> Result<&VarTable, Fail> {
+    match typed.vars(0) {
+        Some(vars) => Ok(vars),
+        None => Err("no procedure".into()),
     }
 }
 
-fn is_known(types: &TypeTable, owner: Owner) -> bool
-    ensures { IsTrue result → KnowsOwner types.now owner }
-{
-    match owner {
-        Owner::Common(ty) => ty.0 < types.types(),
-        Owner::Variant(v) => v.index < types.variants(v.ty),
+/// The precondition of the procedure of such a program.
+pub(crate) fn pre_of(typed: &Typed) -> &Assertion {
+    match typed.proc(0) {
+        Some(proc) => &proc.pre,
+        None => &Assertion::True,
     }
 }
 
-fn has_room(types: &TypeTable, owner: Owner, name: &[u8]) -> bool
-    ensures known { IsTrue result → KnowsOwner types.now owner }
-    ensures new { IsTrue result → place_of name.now (field_names (fields_of types.now (owner_type owner))) ≡ None }
-    ensures room { IsTrue result → length (fields_of types.now (owner_type owner)) < 32 }
-{
-    let ty = type_of(owner);
-    is_known(types, owner) && types.find_field(ty, name).is_none() && types.fields(ty) < 9
-}
-
-fn add_bool(types: &mut TypeTable, owner: Owner, name: &str) -> Result<(), Fail> {
-    if !has_room(types, owner, name.as_bytes()) {
-        return Err("no new field".into());
-    }
-    types.add_field(owner, name.as_bytes(), FieldKind::Bool)?;
-    Ok(())
-}
-
-/// A data field to cells of the owner's type.
-fn add_data(types: &mut TypeTable, owner: Owner, name: &str) -> Result<(), Fail> {
-    let ty = type_of(owner);
-    if !has_room(types, owner, name.as_bytes()) || ty.0 >= types.types() {
-        return Err("no new field".into());
-    }
-    types.add_field(owner, name.as_bytes(), FieldKind::Data(ty))?;
-    Ok(())
-}
-
-/// A pointer field to cells of the owner's type.
-fn add_pointer(types: &mut TypeTable, owner: Owner, name: &str, along: Route) -> Result<(), Fail>
-    requires { (types : List TypeEntry) → KnowsRoute types along }
-{
-    let ty = type_of(owner);
-    if !has_room(types, owner, name.as_bytes()) || ty.0 >= types.types() {
-        return Err("no new field".into());
-    }
-    types.add_field(owner, name.as_bytes(), FieldKind::Pointer(ty, along))?;
-    Ok(())
-}
-
-/// `^`
-fn to_parent() -> Route
-    ensures { (types : List TypeEntry) → KnowsRoute types result }
-{
-    Route::UpAny
-}
-
-fn add_node(types: &mut TypeTable) -> Result<(), Fail> {
-    add_type(types, "Node")?;
-    add_data(types, Owner::Common(NODE), "next")?;
-    add_pointer(types, Owner::Common(NODE), "prev", to_parent())?;
-    add_bool(types, Owner::Common(NODE), "mark")
-}
-
-fn add_tree(types: &mut TypeTable) -> Result<(), Fail> {
-    add_type(types, "Tree")?;
-    add_variant(types, "leaf")?;
-    add_variant(types, "node")?;
-    add_pointer(types, Owner::Common(TREE), "up", to_parent())?;
-    add_bool(types, Owner::Variant(LEAF), "ripe")?;
-    add_data(types, Owner::Variant(BRANCH), "left")?;
-    add_data(types, Owner::Variant(BRANCH), "right")?;
-    add_bool(types, Owner::Variant(BRANCH), "red")
-}
-
-pub(crate) fn made_types(alloc: Global) -> Result<TypeTable, Fail> {
-    let mut types = TypeTable::new(alloc);
-    add_node(&mut types)?;
-    add_tree(&mut types)?;
-    Ok(types)
-}
-
-fn add_var(vars: &mut VarTable, name: &[u8], kind: VarKind) -> Result<(), Fail> {
-    if vars.find(name).is_some() || vars.vars() > 20 {
-        return Err("no new variable".into());
-    }
-    vars.add(name, kind)?;
-    Ok(())
-}
-
-/// The variables of these names and kinds.
-pub(crate) fn made_vars(alloc: Global, list: &[(&str, VarKind)]) -> Result<VarTable, Fail> {
-    let mut vars = VarTable::new(alloc);
-    for (name, kind) in list {
-        add_var(&mut vars, name.as_bytes(), *kind)?;
-    }
-    Ok(vars)
-}
-
-/// The store of these lines, which fits its tables.
+/// The store of a text, which fits its tables.
 pub(crate) fn store_of(
     alloc: Global,
     types: &TypeTable,
     vars: &VarTable,
-    lines: &str,
+    text: &str,
 ) -> Result<Store, Fail>
     ensures { IfOk result (Fits types.now vars.now) }
 {
-    let text = format!(in alloc; "store\n{lines}end\n")?;
     let text = text.as_bytes();
     if text.len() > 1000 {
         return Err("a long text".into());
@@ -201,4 +100,18 @@ pub(crate) fn store_of(
     let store = read_store(alloc, types, vars, text)?;
     read_stores_fit();
     Ok(store)
+}
+
+/// Whether this is written of the store.
+pub(crate) fn is_text(
+    alloc: Global,
+    types: &TypeTable,
+    vars: &VarTable,
+    store: &Store,
+    want: &str,
+) -> Result<bool, AllocError>
+    requires { Fits types.now vars.now store.now }
+{
+    let text = store_text(alloc, types, vars, store)?;
+    Ok(text.as_slice() == want.as_bytes())
 }

@@ -1,12 +1,9 @@
 //! Where procedures begin and end. Of an end an answer has the line alone.
 
-ghost use Rattle.std.specs.Prelude.{◌<◌, length};
-
 use pale_parse::parse;
 use pale_syntax::Declaration;
 use pale_text::{TextStop, lex};
-use std::alloc::{AllocError, Global};
-use std::fmt::Write;
+use std::alloc::Global;
 use std::test::Fail;
 
 static TEXT: &[u8] = b"type T = { bool b; } | v { } | w { data n: T; pointer p: T [^n]; }
@@ -20,35 +17,37 @@ proc q(data x: T, bool c) returns (pointer y: T) logic set S: T, bool d pre [c] 
 }
 ";
 
-fn push_places(out: &mut String, declaration: &Declaration) -> Result<(), AllocError> {
-    if let Declaration::Procedure(procedure) = declaration {
+/// Whether the procedures among the declarations begin and end there: a line and a column, and once more.
+fn are_at(declarations: &[Declaration], wanted: &[[u32; 4]]) -> bool {
+    let mut left = wanted;
+    for declaration in declarations {
+        let Declaration::Procedure(procedure) = declaration else {
+            continue;
+        };
+        let Some((there, others)) = left.split_first() else {
+            return false;
+        };
         let (first, last) = (procedure.place, procedure.end);
-        write!(
-            out,
-            "{}:{} to {}:{}; ",
-            first.line, first.column, last.line, last.column
-        )?;
+        if [first.line, first.column, last.line, last.column] != *there {
+            return false;
+        }
+        left = others;
     }
-    Ok(())
+    left.is_empty()
 }
 
-/// Where each procedure of a text begins and ends.
-fn places(alloc: Global, text: &[u8]) -> Result<String, TextStop>
-    requires { length text.now < u32.MAX }
-{
+/// Whether the procedures of a text begin and end there.
+fn begin_and_end(alloc: Global, text: &[u8], wanted: &[[u32; 4]]) -> Result<bool, TextStop> {
+    if text.len() >= 1000 {
+        return Ok(false);
+    }
     let list = lex(alloc, text)?;
     let program = parse(alloc, &list)?;
-    let mut out = String::new(alloc);
-    for declaration in program.declarations.as_slice() {
-        push_places(&mut out, declaration)?;
-    }
-    Ok(out)
+    Ok(are_at(program.declarations.as_slice(), wanted))
 }
 
 #[test]
 fn procedures_last_from_their_keyword_to_their_brace(rt: HostRuntime) -> Result<(), Fail> {
-    assert!(rt; TEXT.len() < 1000);
-    let got = places(rt.alloc(), TEXT)?;
-    assert_eq!(rt; got.as_str(), "3:1 to 3:12; 4:1 to 9:1; ");
+    assert!(rt; begin_and_end(rt.alloc(), TEXT, &[[3, 1, 3, 12], [4, 1, 9, 1]])?);
     Ok(())
 }

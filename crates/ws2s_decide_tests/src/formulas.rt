@@ -1,26 +1,9 @@
 //! Formulas with their Peaks worked out by hand, decided under the plain guide on shelves of as many nodes.
 
-ghost use Rattle.std.specs.Prelude.{◌≤◌};
-
-use crate::found::{Found, outcome_of};
-use bdd_nodes::Shelf;
-use plain_data::Items;
+use crate::found::{Found, found};
 use std::alloc::{AllocError, Global};
 use std::test::Fail;
-use ws2s_core::{Formula, Guide, Track};
-use ws2s_decide::decide;
-
-/// What is found of a formula with track 0 weighed, on a shelf of so many nodes.
-fn found(alloc: Global, f: &Formula, limit: u32) -> Result<Found, Fail>
-    requires some { 1 ≤ limit }
-    requires small { limit ≤ 16000000 }
-{
-    let g = Guide::plain(alloc)?;
-    let mut shelf = Shelf::open(alloc, limit)?;
-    let weigh = Items::from_slice(alloc, &[Track(0)])?;
-    let verdict = decide(alloc, f, &g, &weigh, &mut shelf)?;
-    Ok(outcome_of(verdict))
-}
+use ws2s_core::{Formula, Track};
 
 /// Track 0 has the root alone, said twice.
 fn root_alone(alloc: Global) -> Result<Formula, AllocError> {
@@ -33,37 +16,84 @@ fn same(alloc: Global) -> Result<Formula, AllocError> {
     Formula::and(alloc, Formula::Sub(zero, one), Formula::Sub(one, zero))
 }
 
-#[test]
-fn one_position_is_found_at_its_peak(rt: HostRuntime) -> Result<(), Fail> {
-    let alloc = rt.alloc();
-    // Three states, nine pairs of them, two functions.
-    let single = Formula::Single(Track(0));
-    assert!(rt; found(alloc, &single, 11)? == Found::Tree(1, 1));
-    assert!(rt; found(alloc, &single, 1)? == Found::Limit);
-    // Its projection has one state and one pair, as the minimal one has: 11 + 1 + 1.
-    let some = Formula::ex2(alloc, Track(0), single)?;
-    assert!(rt; found(alloc, &some, 13)? == Found::Tree(0, 0));
-    Ok(())
+/// Some set has one position.
+fn some_position(alloc: Global, track: u32) -> Result<Formula, AllocError> {
+    Formula::ex2(alloc, Track(track), Formula::Single(Track(track)))
 }
 
-#[test]
-fn the_root_alone_is_found_at_its_peak(rt: HostRuntime) -> Result<(), Fail> {
-    let alloc = rt.alloc();
+/// The conjunction of those of a hundred tracks.
+fn on_each(alloc: Global) -> Result<Formula, AllocError> {
+    let mut all = some_position(alloc, 0)?;
+    for track in 1..100 {
+        let next = some_position(alloc, track)?;
+        all = Formula::and(alloc, all, next)?;
+    }
+    Ok(all)
+}
+
+/// The formulas.
+#[derive(Clone, Copy)]
+enum Named {
+    /// Track 0 has one position.
+    Single,
+    /// Some set has one position.
+    Some,
+    RootAlone,
+    /// Its negation.
+    NotRootAlone,
+    Same,
+    OnEach,
+}
+
+fn formula(alloc: Global, named: Named) -> Result<Formula, AllocError> {
+    match named {
+        Named::Single => Ok(Formula::Single(Track(0))),
+        Named::Some => some_position(alloc, 0),
+        Named::RootAlone => root_alone(alloc),
+        Named::NotRootAlone => Formula::not(alloc, root_alone(alloc)?),
+        Named::Same => same(alloc),
+        Named::OnEach => on_each(alloc),
+    }
+}
+
+/// A formula, whether track 0 is weighed, how many nodes the shelf has, and what is found.
+static ROWS: &[(Named, bool, u32, Found)] = &[
+    // Three states, nine pairs of them, two functions.
+    (Named::Single, true, 11, Found::Tree(1, 1)),
+    (Named::Single, true, 1, Found::Limit),
+    // Its projection has one state and one pair, as the minimal one has: 11 + 1 + 1.
+    (Named::Some, true, 13, Found::Tree(0, 0)),
     // 11 and 10 for the atoms. The product has four states, since what has the root alone has one position: sixteen pairs and two
     // functions. The minimal one has three states, nine pairs and one function: 11 + 10 + 18 + 10.
-    let root = root_alone(alloc)?;
-    assert!(rt; found(alloc, &root, 49)? == Found::Tree(1, 1));
-    let other = Formula::not(alloc, root)?;
-    assert!(rt; found(alloc, &other, 49)? == Found::Tree(0, 0));
-    Ok(())
+    (Named::RootAlone, true, 49, Found::Tree(1, 1)),
+    (Named::NotRootAlone, true, 49, Found::Tree(0, 0)),
+    // 6 for each atom. The product has four states, sixteen pairs and 3 + 2 + 2 functions, by which of the two is broken below; the
+    // minimal one has two states, four pairs and three functions: 6 + 6 + 23 + 7.
+    (Named::Same, true, 42, Found::Tree(0, 0)),
+    // What isn't needed any more is collected, so that a hundred conjuncts need no more room than two. A conjunct's peak is 13: 11
+    // for "has one position", 1 for its projection and 1 for the result.
+    (Named::OnEach, false, 14, Found::Tree(0, 0)),
+];
+
+fn is_found(
+    alloc: Global,
+    named: Named,
+    is_weighed: bool,
+    limit: u32,
+    wanted: Found,
+) -> Result<bool, AllocError> {
+    if limit == 0 || limit > 1000 {
+        return Ok(false);
+    }
+    let f = formula(alloc, named)?;
+    Ok(found(alloc, &f, is_weighed, limit)?.0 == wanted)
 }
 
 #[test]
-fn equal_sets_are_found_at_their_peak(rt: HostRuntime) -> Result<(), Fail> {
-    let alloc = rt.alloc();
-    // 6 for each atom. The product has four states, sixteen pairs and 3 + 2 + 2 functions, by which of the two is broken below; the
-    // minimal one has two states, four pairs and three functions: 6 + 6 + 23 + 7.
-    let same = same(alloc)?;
-    assert!(rt; found(alloc, &same, 42)? == Found::Tree(0, 0));
+fn formulas_are_decided_at_their_peaks(rt: HostRuntime) -> Result<(), Fail> {
+    for (number, (named, is_weighed, limit, wanted)) in ROWS.iter().enumerate() {
+        let is_so = is_found(rt.alloc(), *named, *is_weighed, *limit, *wanted)?;
+        assert!(rt; is_so, "row {number}");
+    }
     Ok(())
 }

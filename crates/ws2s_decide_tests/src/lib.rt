@@ -6,6 +6,4 @@ mod formulas;
 #[cfg(test)]
 mod found;
 #[cfg(test)]
-mod peaks;
-#[cfg(test)]
 mod towers;
