@@ -18,9 +18,10 @@ fn write_number(out: &mut Writer, found: Option<u32>) {
 
 /// Writes the number of a track, or a dash.
 fn write_track(out: &mut Writer, found: Option<Track>) {
+    out.push(b' ');
     match found {
-        Some(track) => write_number(out, Some(track.0)),
-        None => write_number(out, None),
+        Some(track) => push_number(out, track.0),
+        None => out.push(b'-'),
     }
 }
 

@@ -69,8 +69,10 @@ fn write_node(out: &mut Writer, node: &TreeNode, number: u64) {
 fn write_tree(alloc: Global, nodes: &[TreeNode], out: &mut Writer) -> Result<(), AllocError> {
     let positions = positions_of(alloc, nodes)?;
     out.push_all(b"tree");
-    for (node, number) in nodes.iter().zip(positions.as_slice()) {
-        write_node(out, node, *number);
+    for k in 0..nodes.len() {
+        if let (Some(node), Some(number)) = (nodes.get(k), positions.get(k)) {
+            write_node(out, node, *number);
+        }
     }
     out.push(b'\n');
     Ok(())
