@@ -33,11 +33,11 @@ fn last(parts: &mut Vec<Formula>) -> Formula {
 /// What `and` or `not` makes of the last parts, and `front` of two with the last one in front.
 fn joined(alloc: Global, word: &[u8], parts: &mut Vec<Formula>) -> Result<Formula, AllocError> {
     let one = last(parts);
-    if word == b"not" {
+    if word == b"not".as_slice() {
         return Formula::not(alloc, one);
     }
     let other = last(parts);
-    if word == b"and" {
+    if word == b"and".as_slice() {
         Formula::and(alloc, other, one)
     } else {
         Formula::and(alloc, one, other)

@@ -151,22 +151,21 @@ fn is_made(
 }
 
 /// Whether each rewriter's answer is as the row has it.
-fn holds(alloc: Global, row: &Row) -> Result<[bool; 4], AllocError> {
+fn holds(alloc: Global, row: &Row) -> Result<bool, AllocError> {
     let [text, flat, used, folded, narrow] = *row;
     let whole = formula(alloc, text)?;
-    Ok([
-        is_made(alloc, Rewriting::Flat, text, &whole, flat)?,
-        is_made(alloc, Rewriting::Used, text, &whole, used)?,
-        is_made(alloc, Rewriting::Folded, text, &whole, folded)?,
-        is_made(alloc, Rewriting::Narrow, text, &whole, narrow)?,
-    ])
+    Ok(
+        is_made(alloc, Rewriting::Flat, text, &whole, flat)?
+            && is_made(alloc, Rewriting::Used, text, &whole, used)?
+            && is_made(alloc, Rewriting::Folded, text, &whole, folded)?
+            && is_made(alloc, Rewriting::Narrow, text, &whole, narrow)?,
+    )
 }
 
 #[test]
 fn rewritings_are_as_worked_out(rt: HostRuntime) -> Result<(), Fail> {
     for row in &ROWS {
-        let answers = holds(rt.alloc(), row)?;
-        assert_eq!(rt; answers, [true; 4], "{}", row[0]);
+        assert!(rt; holds(rt.alloc(), row)?, "{}", row[0]);
     }
     Ok(())
 }

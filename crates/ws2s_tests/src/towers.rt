@@ -79,8 +79,8 @@ fn makes(
 
 #[test]
 fn towers_are_rewritten(rt: HostRuntime) -> Result<(), Fail> {
-    for (number, (by, texts, wanted)) in TOWERS.iter().enumerate() {
-        assert!(rt; makes(rt.alloc(), *by, texts, wanted)?, "tower {number}");
+    for row in TOWERS {
+        assert!(rt; makes(rt.alloc(), row.0, row.1, row.2)?);
     }
     Ok(())
 }

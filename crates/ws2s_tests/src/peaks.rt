@@ -91,9 +91,12 @@ fn is_found(
 
 #[test]
 fn formulas_are_decided_at_their_peaks(rt: HostRuntime) -> Result<(), Fail> {
-    for (number, (named, is_weighed, limit, wanted)) in ROWS.iter().enumerate() {
-        let is_so = is_found(rt.alloc(), *named, *is_weighed, *limit, *wanted)?;
-        assert!(rt; is_so, "row {number}");
+    for row in ROWS {
+        assert!(rt;
+            is_found(rt.alloc(), row.0, row.1, row.2, row.3)?,
+            "at {}",
+            row.2
+        );
     }
     Ok(())
 }
