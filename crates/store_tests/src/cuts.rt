@@ -74,7 +74,7 @@ fn is_so(
 fn cuts_parts_and_sets_of_cells_are_judged(rt: HostRuntime) -> Result<(), Fail> {
     let typed = program_of(rt.alloc(), VARS, "x<next*>y")?;
     let vars = vars_of(&typed)?;
-    let Assertion::Walk(_, route, _) = pre_of(&typed) else {
+    let Some(Assertion::Walk(_, route, _)) = pre_of(&typed) else {
         return Err("no walk".into());
     };
     for case in STORES {

@@ -77,11 +77,8 @@ pub(crate) fn vars_of(typed: &Typed) -> Result<&VarTable, Fail> {
 }
 
 /// The precondition of the procedure of such a program.
-pub(crate) fn pre_of(typed: &Typed) -> &Assertion {
-    match typed.proc(0) {
-        Some(proc) => &proc.pre,
-        None => &Assertion::True,
-    }
+pub(crate) fn pre_of(typed: &Typed) -> Option<&Assertion> {
+    Some(&typed.proc(0)?.pre)
 }
 
 /// The store of a text, which fits its tables.

@@ -34,7 +34,10 @@ fn is_true(alloc: Global, store: &Store, row: &Row) -> Result<bool, Fail> {
     let (on, assertion, _) = row;
     let typed = program_of(alloc, VARS, assertion)?;
     let region = region_of(alloc, on)?;
-    Ok(sat(alloc, typed.types(), store, &region, pre_of(&typed))?)
+    match pre_of(&typed) {
+        Some(pre) => Ok(sat(alloc, typed.types(), store, &region, pre)?),
+        None => Ok(false),
+    }
 }
 
 fn check(

@@ -91,7 +91,7 @@ fn form_of(route: &Route) -> u32 {
 fn form_of_copy(alloc: Global, route: &str) -> Result<Option<u32>, Fail> {
     let typed = program_of(alloc, b"proc p(data x: Node)", route)?;
     match pre_of(&typed) {
-        Assertion::Walk(_, route, _) => Ok(Some(form_of(&route.copy(alloc)?))),
+        Some(Assertion::Walk(_, route, _)) => Ok(Some(form_of(&route.copy(alloc)?))),
         _ => Ok(None),
     }
 }
