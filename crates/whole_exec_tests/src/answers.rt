@@ -99,21 +99,24 @@ fn answer_of(
     Ok(Some(started(alloc, &program, number, vars, read, steps)?))
 }
 
+/// What the digits of a `u32` stand for.
+const UNITS: [u32; 10] = [
+    1_000_000_000,
+    100_000_000,
+    10_000_000,
+    1_000_000,
+    100_000,
+    10_000,
+    1_000,
+    100,
+    10,
+    1,
+];
+
 /// Writes a space and the number of the cell.
 fn push_cell(out: &mut Writer, cell: CellId) {
     out.push(b' ');
-    for unit in [
-        1_000_000_000,
-        100_000_000,
-        10_000_000,
-        1_000_000,
-        100_000,
-        10_000,
-        1_000,
-        100,
-        10,
-        1u32,
-    ] {
+    for unit in UNITS {
         let digit = cell.0.checked_div(unit).unwrap_or(0) % 10;
         if unit <= cell.0 || unit == 1 {
             out.push(b'0'.wrapping_add(digit as u8));
