@@ -8,9 +8,11 @@ ghost use Rattle.gta_core.specs.Auto.{guide_of, IsAuto};
 ghost use Rattle.ws2s_core.specs.LabelTrees.{IsTree};
 ghost use Rattle.ws2s_theory.specs.Trees.{last_place, moved_on, under_root};
 
+use crate::lines::write_number;
 use bdd_nodes::Shelf;
 use gta_core::{Auto, accepts};
 use plain_data::Items;
+use plain_writer::Writer;
 use std::alloc::{AllocError, Global};
 use ws2s_core::{LabelTree, Track, TrackList, TreeNode, TreeNodeList};
 use ws2s_theory::trees_are_joined;
@@ -167,14 +169,14 @@ pub(crate) fn write_trees(
     alloc: Global,
     a: &Auto,
     shelf: &Shelf,
-    out: &mut String,
+    out: &mut Writer,
 ) -> Result<(), AllocError>
     requires { IsAuto (guide_of a.now) shelf.now a.now }
 {
     for size in 0..5 {
         let (many, sum) = accepted(alloc, a, shelf, size)?;
-        let text = format!(in alloc; " {many}:{sum}")?;
-        out.push_str(&text)?;
+        write_number(out, b" ", many as u64);
+        write_number(out, b":", sum as u64);
     }
     Ok(())
 }
