@@ -128,7 +128,7 @@ unfolding rows_of
 local_sound = or_row local_row no_row
 
 -- the variables that a body declares
-record LocalsMade (start end : List Token) : Type 0 where
+pub record LocalsMade (start end : List Token) : Type 0 where
   parameters : List Parameter
   free : All IsFreeParameter parameters
   short : each_size local_size parameters + length end ≤ length start
