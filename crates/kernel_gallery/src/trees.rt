@@ -13,7 +13,6 @@ use gta_core::{Auto, accepts};
 use plain_data::Items;
 use std::alloc::{AllocError, Global};
 use ws2s_core::{LabelTree, Track, TrackList, TreeNode, TreeNodeList};
-use ws2s_theory::trees_are_joined;
 
 /// How many nodes the left child of a root has, and the numbers of both children's trees.
 #[derive(Clone, Copy)]
@@ -66,8 +65,6 @@ fn tree_of(alloc: Global, size: u32, number: u32) -> Result<TreeNodeList, AllocE
     ensures tree { IfOk result IsTree }
     ensures size { IfOk result (λ nodes. length nodes ≡ size) }
 {
-    // Only for its clause `tree`.
-    trees_are_joined();
     if size == 0 {
         return Ok(Items::new(alloc));
     }
@@ -129,8 +126,10 @@ fn joined(
     right: &[TreeNode],
 ) -> Result<TreeNodeList, AllocError>
     requires few { length left + length right.now < 100 }
+    requires first { IsTree left }
     requires tree { IsTree right.now }
-    ensures { IfOk result (λ nodes. nodes ≡ under_root tracks left right.now) }
+    ensures nodes { IfOk result (λ nodes. nodes ≡ under_root tracks left right.now) }
+    ensures tree { IfOk result IsTree }
 {
     let offset = left.len() as u32;
     let mut nodes = left;
