@@ -23,7 +23,7 @@ use Rattle.gta_product.specs.Filling.{Joins, ExceedsCells}
 use Rattle.gta_product.specs.Building.{AreSpaces, CompleteAll, ExceedsSteps, HasManyCells, Building, Exceeded, ExtendAll}
 use Rattle.gta_product.specs.Growing.{AreGenerated, HasSeen, HaveSeen, Goes, LacksRoom, room_left}
 use Rattle.gta_product.proofs.BuildingLemmas.{SetsSpace, ExtendAll-set, AreSpaces-set, Building-set, ExceedsSteps-set}
-use Rattle.gta_product.proofs.CellsLemmas.{get-index}
+use Rattle.gta_core.proofs.CellsLemmas.{get-index}
 use Rattle.gta_product.proofs.PartLemmas.{SetsSpace-at, get-set, get-set_other, length-set_at, parts-length}
 use Rattle.gta_product.proofs.KeyedLemmas.{IsKeyed-none, ones-differ}
 use Rattle.gta_product.proofs.NextLemmas.{alone-is}

@@ -31,7 +31,8 @@ use Rattle.gta_subsets.specs.Numbers.{number_in, Extends}
 use Rattle.gta_project.specs.Filling.{IsCell}
 use Rattle.gta_project.specs.Building.{AreSpaces, IsPartOf, AreParts, ExtendAll}
 use Rattle.gta_subsets.proofs.NumbersLemmas.{number_in-get}
-use Rattle.gta_project.proofs.CellsLemmas.{get-index, has-root, is-place}
+use Rattle.gta_core.proofs.CellsLemmas.{get-index}
+use Rattle.gta_project.proofs.CellsLemmas.{has-root, is-place}
 
 -- lists with the same elements are the same
 ext : {X : Type 0} (xs ys : List X) → ((i : ℕ) → slice_get xs i ≡ slice_get ys i) → xs ≡ ys

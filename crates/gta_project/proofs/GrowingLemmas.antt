@@ -24,7 +24,7 @@ use Rattle.gta_project.specs.Building.{AreSpaces, CompleteAll, ExceedsSteps, Has
 use Rattle.gta_subsets.specs.Shorts.{rows_in, columns_in}
 use Rattle.gta_project.specs.Growing.{AreGenerated, HasSeen, HaveSeen, Goes, LacksRoom, room_left}
 use Rattle.gta_project.proofs.BuildingLemmas.{ChangesSpace, ExtendAll-set, AreSpaces-set, Building-set, ExceedsSteps-set}
-use Rattle.gta_project.proofs.CellsLemmas.{get-index}
+use Rattle.gta_core.proofs.CellsLemmas.{get-index}
 use Rattle.gta_project.proofs.PartLemmas.{ChangesSpace-at, get-set, get-set_other, length-set_at}
 use Rattle.gta_project.proofs.KeyedLemmas.{IsKeyed-none, ones-differ}
 use Rattle.gta_project.proofs.NextLemmas.{alone-is}

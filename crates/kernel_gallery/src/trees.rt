@@ -72,7 +72,9 @@ fn tree_of(alloc: Global, size: u32, number: u32) -> Result<TreeNodeList, AllocE
     let sides = sides_of(rest, number / 4);
     let left = tree_of(alloc, sides.size, sides.left)?;
     let right = tree_of(alloc, rest - sides.size, sides.right)?;
-    joined(alloc, tracks(alloc, number)?, left, right.as_slice())
+    let tracks = tracks(alloc, number)?;
+    let nodes = joined(alloc, tracks, left, right.as_slice())?;
+    Ok(nodes)
 }
 
 /// The tracks of the label of this number.
@@ -126,10 +128,8 @@ fn joined(
     right: &[TreeNode],
 ) -> Result<TreeNodeList, AllocError>
     requires few { length left + length right.now < 100 }
-    requires first { IsTree left }
     requires tree { IsTree right.now }
-    ensures nodes { IfOk result (λ nodes. nodes ≡ under_root tracks left right.now) }
-    ensures tree { IfOk result IsTree }
+    ensures { IfOk result (λ nodes. nodes ≡ under_root tracks left right.now) }
 {
     let offset = left.len() as u32;
     let mut nodes = left;

@@ -20,7 +20,8 @@ join_cell-requires-clause-first c =
     let column = get_or c.args.columns.now i (0, 0) in
     let joins = c.loop-column.invariant.joins in
     subst (λ (o : Option NodeRef). IsSome o)
-    (sym (root_at-kept c.args.shelf.now c.loop-column.shelf c.requires.tables.is_shelf joins.keeps joins.tables c.args.a.now c.args.space (c.args.row).0 column.0))
+    (sym (root_at-kept c.args.shelf.now c.loop-column.shelf c.requires.tables.is_shelf joins.keeps joins.tables
+    c.args.a.now c.args.space (c.args.row).0 column.0))
     (c.requires.first column (Contains-get_or c.args.columns.now i (0, 0) (omega arith)))
 
 pub join_cell-requires-clause-second : goal.join_cell-requires-clause-second
@@ -29,7 +30,8 @@ join_cell-requires-clause-second c =
     let column = get_or c.args.columns.now i (0, 0) in
     let joins = c.loop-column.invariant.joins in
     subst (λ (o : Option NodeRef). IsSome o)
-    (sym (root_at-kept c.args.shelf.now c.loop-column.shelf c.requires.tables.is_shelf joins.keeps joins.tables c.args.b.now c.args.space (c.args.row).1 column.1))
+    (sym (root_at-kept c.args.shelf.now c.loop-column.shelf c.requires.tables.is_shelf joins.keeps joins.tables
+    c.args.b.now c.args.space (c.args.row).1 column.1))
     (c.requires.second column (Contains-get_or c.args.columns.now i (0, 0) (omega arith)))
 
 pub join_cell-requires-clause-tables : goal.join_cell-requires-clause-tables

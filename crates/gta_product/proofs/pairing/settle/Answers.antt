@@ -52,7 +52,8 @@ grow-requires-clause-seen c =
 
 pub parts_of-requires-clause-first : goal.parts_of-requires-clause-first
 parts_of-requires-clause-first c =
-    let grown = Building-goes c.args.g.now c.args.a.now c.args.b.now c.args.shelf.now c.loop-growths.shelf c.requires.tables.is_shelf c.loop-growths.numbers.items
+    let grown = Building-goes c.args.g.now c.args.a.now c.args.b.now c.args.shelf.now c.loop-growths.shelf c.requires.tables.is_shelf
+    c.loop-growths.numbers.items
     c.loop-growths.invariant.building
     c.grow.new.shelf c.grow.new.numbers.items c.grow.ensures.goes.building in
     auto-now c.args.g.now c.args.a.now c.args.b.now c.args.shelf.now c.grow.new.shelf c.requires.tables.is_shelf c.grow.new.numbers.items grown
@@ -60,7 +61,8 @@ parts_of-requires-clause-first c =
 
 pub parts_of-requires-clause-second : goal.parts_of-requires-clause-second
 parts_of-requires-clause-second c =
-    let grown = Building-goes c.args.g.now c.args.a.now c.args.b.now c.args.shelf.now c.loop-growths.shelf c.requires.tables.is_shelf c.loop-growths.numbers.items
+    let grown = Building-goes c.args.g.now c.args.a.now c.args.b.now c.args.shelf.now c.loop-growths.shelf c.requires.tables.is_shelf
+    c.loop-growths.numbers.items
     c.loop-growths.invariant.building
     c.grow.new.shelf c.grow.new.numbers.items c.grow.ensures.goes.building in
     auto-now c.args.g.now c.args.a.now c.args.b.now c.args.shelf.now c.grow.new.shelf c.requires.tables.is_shelf c.grow.new.numbers.items grown
@@ -75,7 +77,8 @@ parts_of-requires-clause-tables c =
 
 pub parts_of-requires-clause-spaces : goal.parts_of-requires-clause-spaces
 parts_of-requires-clause-spaces c =
-    let grown = Building-goes c.args.g.now c.args.a.now c.args.b.now c.args.shelf.now c.loop-growths.shelf c.requires.tables.is_shelf c.loop-growths.numbers.items
+    let grown = Building-goes c.args.g.now c.args.a.now c.args.b.now c.args.shelf.now c.loop-growths.shelf c.requires.tables.is_shelf
+    c.loop-growths.numbers.items
     c.loop-growths.invariant.building
     c.grow.new.shelf c.grow.new.numbers.items c.grow.ensures.goes.building in
     to-now c.args.g.now c.args.a.now c.args.b.now c.args.shelf.now c.grow.new.shelf c.requires.tables.is_shelf c.grow.new.numbers.items grown
@@ -95,21 +98,24 @@ returns-in_err-growths-clause-leaves c =
 
 pub returns-in_err-grow-clause-leaves : goal.returns-in_err-grow-clause-leaves
 returns-in_err-grow-clause-leaves c =
-    let grown = Building-goes c.args.g.now c.args.a.now c.args.b.now c.args.shelf.now c.loop-growths.shelf c.requires.tables.is_shelf c.loop-growths.numbers.items
+    let grown = Building-goes c.args.g.now c.args.a.now c.args.b.now c.args.shelf.now c.loop-growths.shelf c.requires.tables.is_shelf
+    c.loop-growths.numbers.items
     c.loop-growths.invariant.building
     c.grow.new.shelf c.grow.new.numbers.items c.grow.ensures.goes.building in
     Leaves-building _ _ _ _ _ grown
 
 pub returns-in_err-before-clause-leaves : goal.returns-in_err-before-clause-leaves
 returns-in_err-before-clause-leaves c =
-    let grown = Building-goes c.args.g.now c.args.a.now c.args.b.now c.args.shelf.now c.loop-growths.shelf c.requires.tables.is_shelf c.loop-growths.numbers.items
+    let grown = Building-goes c.args.g.now c.args.a.now c.args.b.now c.args.shelf.now c.loop-growths.shelf c.requires.tables.is_shelf
+    c.loop-growths.numbers.items
     c.loop-growths.invariant.building
     c.grow.new.shelf c.grow.new.numbers.items c.grow.ensures.goes.building in
     Leaves-building _ _ _ _ _ grown
 
 pub returns-in_err-parts-clause-leaves : goal.returns-in_err-parts-clause-leaves
 returns-in_err-parts-clause-leaves c =
-    let grown = Building-goes c.args.g.now c.args.a.now c.args.b.now c.args.shelf.now c.loop-growths.shelf c.requires.tables.is_shelf c.loop-growths.numbers.items
+    let grown = Building-goes c.args.g.now c.args.a.now c.args.b.now c.args.shelf.now c.loop-growths.shelf c.requires.tables.is_shelf
+    c.loop-growths.numbers.items
     c.loop-growths.invariant.building
     c.grow.new.shelf c.grow.new.numbers.items c.grow.ensures.goes.building in
     let next = Building-goes c.args.g.now c.args.a.now c.args.b.now c.args.shelf.now c.grow.new.shelf c.requires.tables.is_shelf c.grow.new.numbers.items grown
@@ -118,7 +124,8 @@ returns-in_err-parts-clause-leaves c =
 
 pub returns-in_err-after-clause-leaves : goal.returns-in_err-after-clause-leaves
 returns-in_err-after-clause-leaves c =
-    let grown = Building-goes c.args.g.now c.args.a.now c.args.b.now c.args.shelf.now c.loop-growths.shelf c.requires.tables.is_shelf c.loop-growths.numbers.items
+    let grown = Building-goes c.args.g.now c.args.a.now c.args.b.now c.args.shelf.now c.loop-growths.shelf c.requires.tables.is_shelf
+    c.loop-growths.numbers.items
     c.loop-growths.invariant.building
     c.grow.new.shelf c.grow.new.numbers.items c.grow.ensures.goes.building in
     let next = Building-goes c.args.g.now c.args.a.now c.args.b.now c.args.shelf.now c.grow.new.shelf c.requires.tables.is_shelf c.grow.new.numbers.items grown
@@ -127,7 +134,8 @@ returns-in_err-after-clause-leaves c =
 
 pub returns-then-are_same-clause-leaves : goal.returns-then-are_same-clause-leaves
 returns-then-are_same-clause-leaves c =
-    let grown = Building-goes c.args.g.now c.args.a.now c.args.b.now c.args.shelf.now c.loop-growths.shelf c.requires.tables.is_shelf c.loop-growths.numbers.items
+    let grown = Building-goes c.args.g.now c.args.a.now c.args.b.now c.args.shelf.now c.loop-growths.shelf c.requires.tables.is_shelf
+    c.loop-growths.numbers.items
     c.loop-growths.invariant.building
     c.grow.new.shelf c.grow.new.numbers.items c.grow.ensures.goes.building in
     let next = Building-goes c.args.g.now c.args.a.now c.args.b.now c.args.shelf.now c.grow.new.shelf c.requires.tables.is_shelf c.grow.new.numbers.items grown
@@ -142,7 +150,8 @@ returns-in_err-grow-clause-limit c = λ stopped.
 
 pub returns-in_err-parts-clause-limit : goal.returns-in_err-parts-clause-limit
 returns-in_err-parts-clause-limit c = λ stopped.
-    let grown = Building-goes c.args.g.now c.args.a.now c.args.b.now c.args.shelf.now c.loop-growths.shelf c.requires.tables.is_shelf c.loop-growths.numbers.items
+    let grown = Building-goes c.args.g.now c.args.a.now c.args.b.now c.args.shelf.now c.loop-growths.shelf c.requires.tables.is_shelf
+    c.loop-growths.numbers.items
     c.loop-growths.invariant.building
     c.grow.new.shelf c.grow.new.numbers.items c.grow.ensures.goes.building in
     Exceeded-goes c.args.g.now c.args.a.now c.args.b.now c.args.shelf.now c.grow.new.shelf c.requires.tables.is_shelf c.grow.new.numbers.items grown
@@ -153,7 +162,8 @@ returns-in_err-parts-clause-limit c = λ stopped.
 pub returns-then-are_same-clause-settled : goal.returns-then-are_same-clause-settled
 returns-then-are_same-clause-settled c =
     let AB = pairs (automaton_of c.args.shelf.now c.args.a.now) (automaton_of c.args.shelf.now c.args.b.now) in
-    let grown = Building-goes c.args.g.now c.args.a.now c.args.b.now c.args.shelf.now c.loop-growths.shelf c.requires.tables.is_shelf c.loop-growths.numbers.items
+    let grown = Building-goes c.args.g.now c.args.a.now c.args.b.now c.args.shelf.now c.loop-growths.shelf c.requires.tables.is_shelf
+    c.loop-growths.numbers.items
     c.loop-growths.invariant.building
     c.grow.new.shelf c.grow.new.numbers.items c.grow.ensures.goes.building in
     let next = Building-goes c.args.g.now c.args.a.now c.args.b.now c.args.shelf.now c.grow.new.shelf c.requires.tables.is_shelf c.grow.new.numbers.items grown
@@ -174,7 +184,8 @@ returns-then-are_same-clause-settled c =
 
 pub loop-growths-preserved : goal.loop-growths-preserved
 loop-growths-preserved c =
-    let grown = Building-goes c.args.g.now c.args.a.now c.args.b.now c.args.shelf.now c.loop-growths.shelf c.requires.tables.is_shelf c.loop-growths.numbers.items
+    let grown = Building-goes c.args.g.now c.args.a.now c.args.b.now c.args.shelf.now c.loop-growths.shelf c.requires.tables.is_shelf
+    c.loop-growths.numbers.items
     c.loop-growths.invariant.building
     c.grow.new.shelf c.grow.new.numbers.items c.grow.ensures.goes.building in
     let next = Building-goes c.args.g.now c.args.a.now c.args.b.now c.args.shelf.now c.grow.new.shelf c.requires.tables.is_shelf c.grow.new.numbers.items grown
@@ -190,7 +201,8 @@ loop-growths-preserved c =
 pub loop-growths-smaller : goal.loop-growths-smaller
 loop-growths-smaller c =
     let most = room-most c.loop-growths.numbers.items c.grow.new.numbers.items c.grow.ensures.goes.extends in
-    let grown = Building-goes c.args.g.now c.args.a.now c.args.b.now c.args.shelf.now c.loop-growths.shelf c.requires.tables.is_shelf c.loop-growths.numbers.items
+    let grown = Building-goes c.args.g.now c.args.a.now c.args.b.now c.args.shelf.now c.loop-growths.shelf c.requires.tables.is_shelf
+    c.loop-growths.numbers.items
     c.loop-growths.invariant.building
     c.grow.new.shelf c.grow.new.numbers.items c.grow.ensures.goes.building in
     let next = Building-goes c.args.g.now c.args.a.now c.args.b.now c.args.shelf.now c.grow.new.shelf c.requires.tables.is_shelf c.grow.new.numbers.items grown

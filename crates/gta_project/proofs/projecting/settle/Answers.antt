@@ -41,13 +41,15 @@ grow-requires-clause-initials c =
 
 pub grow-requires-clause-spaces : goal.grow-requires-clause-spaces
 grow-requires-clause-spaces c =
-    to-now c.args.g.now c.args.a.now c.args.track c.args.initials.now c.args.shelf.now c.loop-growths.shelf c.requires.table.is_shelf c.loop-growths.numbers.items
+    to-now c.args.g.now c.args.a.now c.args.track c.args.initials.now c.args.shelf.now c.loop-growths.shelf c.requires.table.is_shelf
+    c.loop-growths.numbers.items
     c.loop-growths.invariant.building (λ (Sets : Automaton (List ℕ)). AreSpaces c.args.g.now Sets c.loop-growths.numbers.items)
     c.loop-growths.invariant.building.are
 
 pub grow-requires-clause-seen : goal.grow-requires-clause-seen
 grow-requires-clause-seen c =
-    to-now c.args.g.now c.args.a.now c.args.track c.args.initials.now c.args.shelf.now c.loop-growths.shelf c.requires.table.is_shelf c.loop-growths.numbers.items
+    to-now c.args.g.now c.args.a.now c.args.track c.args.initials.now c.args.shelf.now c.loop-growths.shelf c.requires.table.is_shelf
+    c.loop-growths.numbers.items
     c.loop-growths.invariant.building (λ (Sets : Automaton (List ℕ)). HaveSeen c.args.g.now Sets c.args.a.now c.loop-growths.growths.items)
     c.loop-growths.invariant.seen
 

@@ -1,8 +1,6 @@
 use Rattle.std.proofs.Common.{◌≡◌, ℕ, zero, suc, ◌+◌, ◌<◌, List, [], ◌∷◌, length, Option, Some, None, IfSome, arith, sym, ap}
 use Rattle.std.specs.Prelude.{slice_get, slice_index_or}
 use Rattle.ws2s_core.specs.declared.label_tree.TreeNode.{TreeNode}
-use Rattle.ws2s_core.specs.LabelTrees.{IsTree}
-use Rattle.ws2s_theory.proofs.JoiningLemmas.{IsTree-joined}
 use Rattle.kernel_gallery.proofs.trees.joined.Goals as goal
 
 -- what is read within the list is there

@@ -1,5 +1,4 @@
-use Rattle.std.proofs.Common.{◌≡◌, ◌≤◌, ◌∙◌, ℕ, max, arith, ap, subst}
-use Rattle.store_core.specs.StoreBodies.{IsKept}
+use Rattle.std.proofs.Common.{◌≡◌, ◌≤◌, ◌∙◌, ℕ, max, arith, ap}
 use Rattle.whole_handing.proofs.Merging.{all_kept, all_is}
 use Rattle.whole_handing.proofs.beside.beside.Goals as goal
 
