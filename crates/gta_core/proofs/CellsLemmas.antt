@@ -1,6 +1,6 @@
 -- Parts whose cells are numbered row after row: which roots they have for states of their children.
 use Rattle.std.proofs.Common.{◌≡◌, ℕ, zero, suc, ◌+◌, ◌*◌, ◌-◌, ◌<◌, ◌≤◌, List, [], ◌∷◌, length, Option, Some, slice_get, refl}
-use Rattle.std.proofs.Common.{sym, ◌∙◌, ap, inl, inr, arith, suc-mul, mul-le-mul_right}
+use Rattle.std.proofs.Common.{sym, ◌∙◌, ap, subst, inl, inr, arith, suc-mul, mul-le-mul_right}
 use Rattle.std.specs.Prelude.{option_map, option_and_then, unwrap_or}
 use Rattle.std.specs.List.{range_with_len}
 use Rattle.std.proofs.lemmas.Bool.{cases_lt}
@@ -76,6 +76,10 @@ unfolding automaton_of
 step-classes shelf a s part l m r q at rows columns label =
     ap (λ (o : Option NodeRef). unwrap_or (option_map (state_of shelf) o) (λ _. 0) label) (root_at-classes shelf a s part l m r q at rows columns)
 
+-- a place behind the first one
+behind : (first place cell : ℕ) → first ≤ place → place - first ≡ cell → first + cell ≡ place
+behind first place cell from is = omega arith
+
 -- a part whose cells are numbered
 module _ (part : Part) (height width : ℕ) (is_width : part.width ≡ width) (numbered : part.cells ≡ range_with_len 0 (height * width)) where
   -- the place of a row and a column
@@ -101,12 +105,11 @@ module _ (part : Part) (height width : ℕ) (is_width : part.width ≡ width) (n
   HasPlace-numbered row column place from to =
       let many = ap length numbered ∙ length-range_with_len 0 (height * width) in
       let at = in-table height width (place - part.first) (omega arith) in
-      let is = at.is in
       let l = row at.row at.row_within in
       let r = column at.column at.column_within in
       record {
         left = l.0;
         right = r.0;
-        there = place_in-numbered l.0 r.0 at.row at.column l.1 r.1 at.row_within at.column_within
-            ∙ ap (λ (n : ℕ). let o : Option ℕ = Some n in o) (omega arith);
+        there = subst (λ (n : ℕ). place_in part l.0 r.0 ≡ Some n) (behind part.first place (at.row * width + at.column) from at.is)
+            (place_in-numbered l.0 r.0 at.row at.column l.1 r.1 at.row_within at.column_within);
       }
