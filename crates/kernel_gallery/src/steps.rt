@@ -1,7 +1,7 @@
 //! Lines that make an automaton step by step, and say what it is like.
 
 ghost use Rattle.std.specs.Prelude.{◌≤◌, IfOk, IsSome};
-ghost use Rattle.bdd_nodes.specs.Shelf.{roots_of};
+ghost use Rattle.bdd_nodes.specs.Shelf.{IsShelf, roots_of};
 ghost use Rattle.gta_theory.specs.Guides.{Spaces};
 ghost use Rattle.gta_core.specs.Auto.{IsAuto};
 
@@ -9,9 +9,9 @@ use crate::guides::guide_of;
 use crate::lines::{write_number, write_unknown};
 use crate::literals::{Literal, automaton, with};
 use crate::looks::look;
-use bdd_nodes::{Shelf, unused_numbers};
+use bdd_nodes::Shelf;
 use bdd_walk::Stop;
-use gta_core::{Auto, automata_outlive_changes, release, tables_outlive_changes};
+use gta_core::{Auto, release};
 use gta_merge::merge;
 use gta_minimise::minimise;
 use gta_product::complement;
@@ -55,14 +55,11 @@ impl Step {
 
 /// A copy of the automaton, which is let go with the nodes that no table holds any more.
 fn moved(alloc: Global, a: Auto, shelf: &mut Shelf) -> Result<Auto, Stop>
-    requires { IsSome (roots_of shelf.old a.table) }
-    ensures { IfOk result (λ copy. (g : Spaces) → IsAuto g shelf.old a → IsAuto g shelf.new copy) }
+    requires shelf { IsShelf shelf.old }
+    requires table { IsSome (roots_of shelf.old a.table) }
+    ensures auto { IfOk result (λ copy. (g : Spaces) → IsAuto g shelf.old a → IsAuto g shelf.new copy) }
+    ensures shelf { IsShelf shelf.new }
 {
-    // Only for their clauses.
-    let _ = shelf.count();
-    tables_outlive_changes();
-    automata_outlive_changes();
-    unused_numbers();
     let copy = a.copy(alloc, shelf)?;
     release(a, shelf);
     shelf.collect();
@@ -71,8 +68,10 @@ fn moved(alloc: Global, a: Auto, shelf: &mut Shelf) -> Result<Auto, Stop>
 
 /// The automaton after a step.
 fn after(alloc: Global, g: &Guide, a: Auto, step: Step, shelf: &mut Shelf) -> Result<Auto, Stop>
-    requires { IsAuto g.now shelf.old a }
-    ensures { IfOk result (IsAuto g.now shelf.new) }
+    requires shelf { IsShelf shelf.old }
+    requires auto { IsAuto g.now shelf.old a }
+    ensures auto { IfOk result (IsAuto g.now shelf.new) }
+    ensures shelf { IsShelf shelf.new }
 {
     match step {
         Step::With(literal) => with(alloc, g, &a, literal, shelf),
@@ -105,7 +104,8 @@ pub(crate) fn go_on(
     shelf: &mut Shelf,
     out: &mut Writer,
 ) -> Result<(), Stop>
-    requires { IsAuto g.now shelf.old first }
+    requires shelf { IsShelf shelf.old }
+    requires auto { IsAuto g.now shelf.old first }
 {
     let mut a = first;
     for word in words.split_whitespace() {

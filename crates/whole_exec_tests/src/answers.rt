@@ -68,8 +68,6 @@ fn started(
     requires next { store.next < 1000001 }
     requires steps { steps < 1000001 }
 {
-    // Only for its clause on the table.
-    let _ = vars.vars();
     run_procedure(alloc, program, number, store, steps)
 }
 
