@@ -30,7 +30,8 @@ use Rattle.pale_print_laws.specs.DeclarationWords.{predicate_words, parameter_wo
 use Rattle.pale_print_laws.specs.DeclarationWords.{procedure_words, declaration_words, program_words}
 use Rattle.pale_procedures.specs.declared.basis.Basis.{Basis}
 use Rattle.pale_typed.specs.declared.typed.ProcEntry.{ProcEntry}
-use Rattle.pale_procedures.specs.Procedures.{frame_in, typed_procedure}
+use Rattle.pale_sights.specs.Headings.{frame_in}
+use Rattle.pale_procedures.specs.Procedures.{typed_procedure}
 use Rattle.pale_procedures.specs.Statements.{types_of, typed_block}
 use Rattle.pale_types.specs.Programs.{as_procedure, types_in, predicates_in, procedures_in, basis_of, typed_list, typed_program}
 use Rattle.whole_run.specs.Places.{cut_places, PlacesAreDistinct}
