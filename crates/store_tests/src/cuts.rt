@@ -7,7 +7,8 @@ mod stores;
 
 use crate::programs::{pre_of, program_of, store_of, vars_of};
 use crate::walks::lists;
-use routing_expr::{CutFault, Followed, cut_fault, ends_on, reached, store_on};
+use routing_expr::{Followed, cut_fault, ends_on, reached, store_on};
+use routing_walks::CutFault;
 use std::alloc::{AllocError, Global};
 use std::test::Fail;
 use store_core::{CellId, Route, Store, TypeTable, Value, VarId, VarTable};

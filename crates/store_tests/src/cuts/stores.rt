@@ -1,7 +1,6 @@
 //! Lists of nodes, with a logic set.
 
 use super::Case;
-use routing_expr::CutFault;
 use routing_walks::CutFault;
 
 /// The variables of these stores.

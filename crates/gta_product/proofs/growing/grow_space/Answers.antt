@@ -36,7 +36,7 @@ join_pairs-requires-2-clause-second c = auto-on c.args.g.now c.args.a.now c.args
     c.join_pairs.ensures.goes c.args.b.now c.requires.second
 
 pub join_pairs-requires-2-clause-tables : goal.join_pairs-requires-2-clause-tables
-join_pairs-requires-2-clause-tables c = 
+join_pairs-requires-2-clause-tables c =
     let goes = c.join_pairs.ensures.goes in
     AreTables-kept c.args.shelf.now c.join_pairs.new.shelf goes.shelf goes.same_limit goes.tables
     c.args.a.now c.args.b.now c.args.tables.now c.requires.tables
