@@ -27,7 +27,7 @@ pub(crate) fn put(sets: &mut [Set], t: Track, set: Set) -> Set {
 
 /// The set of the position at this place alone.
 pub(crate) fn at_place(place: u32) -> Set {
-    if place < 32 { 1 << place } else { 0 }
+    if place < 32 { 1u32 << place } else { 0 }
 }
 
 /// The set of the position with this number; it is empty where the list doesn't have it.
