@@ -6,5 +6,5 @@ use Rattle.store_gallery.proofs.programs.layout_of.Goals as goal
 
 pub new-requires-clause-vars : goal.new-requires-clause-vars
 new-requires-clause-vars c =
-    subst (λ (types : List TypeEntry). KnowsVars types c.in-Some.vars.now) (sym c.types.ensures)
+    subst (λ (types : List TypeEntry). KnowsVars types c.in-Some.vars.now) (sym c.types-types.ensures)
     (vars-known c.args.typed.now 0 c.in-Some.vars.now c.requires c.in-Some.ensures)
