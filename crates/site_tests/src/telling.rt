@@ -59,7 +59,10 @@ fn push_places(out: &mut Writer, sites: &SiteList) {
 
 fn push_told(out: &mut Writer, told: Told, formula: &Formula) {
     match told {
-        Told::Size => push_number(out, b" ", formula.size() as u32),
+        Told::Size => {
+            let size = u32::try_from(formula.size()).unwrap_or(u32::MAX);
+            push_number(out, b" ", size);
+        }
         Told::Place | Told::Formula => {
             out.push(b' ');
             push_formula(out, formula);
