@@ -39,7 +39,7 @@ fn tracks(alloc: Global, is_weighed: bool) -> Result<TrackList, AllocError> {
 }
 
 /// What is found of a formula under the plain guide on a shelf of so many nodes, and the number of the next table there.
-pub fn found(
+pub fn decided(
     alloc: Global,
     f: &Formula,
     is_weighed: bool,
@@ -51,6 +51,6 @@ pub fn found(
     let g = Guide::plain(alloc)?;
     let weigh = tracks(alloc, is_weighed)?;
     let mut shelf = Shelf::open(alloc, limit)?;
-    let found = outcome_of(decide(alloc, f, &g, &weigh, &mut shelf)?);
-    Ok((found, shelf.add_table(RefList::new(alloc))?))
+    let outcome = outcome_of(decide(alloc, f, &g, &weigh, &mut shelf)?);
+    Ok((outcome, shelf.add_table(RefList::new(alloc))?))
 }

@@ -1,6 +1,6 @@
 //! Formulas with their Peaks worked out by hand, decided under the plain guide on shelves of as many nodes.
 
-use crate::found::{Found, found};
+use crate::found::{Found, decided};
 use std::alloc::{AllocError, Global};
 use std::test::Fail;
 use ws2s_core::{Formula, Track};
@@ -86,7 +86,7 @@ fn is_found(
         return Ok(false);
     }
     let f = formula(alloc, named)?;
-    Ok(found(alloc, &f, is_weighed, limit)?.0 == wanted)
+    Ok(decided(alloc, &f, is_weighed, limit)?.0 == wanted)
 }
 
 #[test]

@@ -1,6 +1,6 @@
 //! Formulas that have few parts, each of which stands in many places.
 
-use crate::found::{Found, found};
+use crate::found::{Found, decided};
 use bdd_nodes::{RefList, Shelf, TableId};
 use std::alloc::{AllocError, Global};
 use std::test::Fail;
@@ -30,7 +30,7 @@ fn equal_parts_are_built_once(rt: HostRuntime) -> Result<(), Fail> {
     let alloc = rt.alloc();
     // It has 8,191 nodes, and 13 parts that differ.
     let f = tower(alloc, 12)?;
-    let (found, next) = found(alloc, &f, true, 10_000)?;
+    let (found, next) = decided(alloc, &f, true, 10_000)?;
     assert!(rt; found == Found::Tree(1, 1));
     assert!(rt; next <= number_after(alloc, 200)?);
     Ok(())
