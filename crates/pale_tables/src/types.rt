@@ -90,6 +90,16 @@ fn note_variants(
     Ok(())
 }
 
+/// Adds the names of a type, of its variants and of their fields.
+fn note_type(alloc: Global, names: &mut TypeNames, ty: &TypeDeclaration) -> Result<(), AllocError>
+    ensures { OnOk result (names.new
+        ≡ with_variants ty.now.variants (noted ty.now.fields (record names.old { types = with_name names.old.types ty.now.name.bytes }))) }
+{
+    names.types.add(ty.name.bytes.as_slice())?;
+    note_fields(names, ty.fields.as_slice())?;
+    note_variants(alloc, names, ty.variants.as_slice())
+}
+
 /// The names that the declarations give.
 #[tactic(auto, using(crate::proofs::TypesLemmas::types_next, crate::proofs::TypesLemmas::types_all))]
 pub fn read_names(alloc: Global, types: &[&TypeDeclaration]) -> Result<TypeNames, AllocError>
@@ -97,9 +107,7 @@ pub fn read_names(alloc: Global, types: &[&TypeDeclaration]) -> Result<TypeNames
 {
     let mut names = TypeNames::new(alloc);
     for ty in types {
-        names.types.add(ty.name.bytes.as_slice())?;
-        note_fields(&mut names, ty.fields.as_slice())?;
-        note_variants(alloc, &mut names, ty.variants.as_slice())?;
+        note_type(alloc, &mut names, ty)?;
     }
     Ok(names)
 }
