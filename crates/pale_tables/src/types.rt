@@ -1,8 +1,9 @@
 //! Declarations of types.
 
-ghost use Rattle.std.specs.Prelude.{◌≡◌, ◌≤◌, [], ◌++◌, ◌∷◌, None, length, map, flat_map, filter_map, fold, IfOk, IfErr, OnOk};
+ghost use Rattle.std.specs.Prelude.{◌≡◌, ◌≤◌, [], ◌++◌, ◌∷◌, Some, None, length, map, flat_map, filter_map, fold, IfOk, IfErr, OnOk};
+ghost use Rattle.pale_text.specs.declared.refusal.RefusalKind.TheVariants as kind;
 ghost use Rattle.pale_tables.specs.Faults.{first_of, IsStop};
-ghost use Rattle.pale_tables.specs.Names.{with_name, each_once};
+ghost use Rattle.pale_tables.specs.Names.{with_name, each_once, new_fault};
 ghost use Rattle.pale_tables.specs.Types.{bool_name, data_name, pointer_name, variant_name, names_in, noted, with_variants};
 ghost use Rattle.pale_tables.specs.Types.{kind_of, field_entry, variant_fields, type_entry, field_row, type_row};
 ghost use Rattle.pale_tables.specs.Types.{type_names_fault, form_fault, field_fault, fields_fault, with_fields, variants_fault, declaration_fault};
@@ -172,6 +173,32 @@ fn read_fields(
     Ok(())
 }
 
+/// A variant after those that the type has before, with its fields.
+fn read_variant(
+    alloc: Global,
+    names: &TypeNames,
+    before: &mut Names,
+    named: &mut Names,
+    variant: &VariantDeclaration,
+    rows: &mut Items<FieldRow>,
+) -> Result<ByteList, TextStop>
+    ensures new { OnOk result (new_fault 16 kind.ManyVariants named.old variant.now.name ≡ None) }
+    ensures met { OnOk result (fields_fault names.now before.old variant.now.fields ≡ None) }
+    ensures name { IfOk result (λ name. name ≡ variant_name variant.now) }
+    ensures named { OnOk result (named.new ≡ named.old ++ variant.now.name.bytes ∷ []) }
+    ensures rows { OnOk result (map field_row rows.new
+        ≡ map field_row rows.old ++ map (field_entry names.now (Some (length named.old))) variant.now.fields) }
+    ensures before { OnOk result (before.new ≡ with_fields before.old variant.now.fields) }
+    ensures stop { IfErr result (IsStop (variants_fault names.now before.old named.old (variant.now ∷ []))) }
+{
+    let name = variant.name.bytes.as_slice();
+    named.need_new(&variant.name, MOST_VARIANTS, RefusalKind::ManyVariants)?;
+    let only = Some(named.len() as u32);
+    read_fields(alloc, names, before, only, variant.fields.as_slice(), rows)?;
+    named.add(name)?;
+    Ok(Items::from_slice(alloc, name)?)
+}
+
 /// The variants of a type, each with its fields.
 fn read_variants(
     alloc: Global,
@@ -188,40 +215,47 @@ fn read_variants(
     let mut named = Names::new(alloc);
     let mut list = Items::new(alloc);
     for variant in variants {
-        let name = variant.name.bytes.as_slice();
-        named.need_new(&variant.name, MOST_VARIANTS, RefusalKind::ManyVariants)?;
-        let only = Some(named.len() as u32);
-        read_fields(alloc, names, before, only, variant.fields.as_slice(), rows)?;
-        named.add(name)?;
-        list.push(Items::from_slice(alloc, name)?)?;
+        let name = read_variant(alloc, names, before, &mut named, variant, rows)?;
+        list.push(name)?;
     }
     Ok(list)
 }
 
-/// A type: its common fields, and then each variant in order.
+/// The names of a type's variants. Its fields, the common ones first and then those of each variant in order, go last.
 #[tactic(auto, unfolding(crate::specs::Types::declaration_fault))]
-fn read_type(alloc: Global, names: &TypeNames, ty: &TypeDeclaration) -> Result<TypeRow, TextStop>
+fn read_parts(
+    alloc: Global,
+    names: &TypeNames,
+    ty: &TypeDeclaration,
+    fields: &mut Items<FieldRow>,
+) -> Result<Items<ByteList>, TextStop>
     ensures met { OnOk result (declaration_fault names.now ty.now ≡ None) }
-    ensures row { IfOk result (λ row. type_row row ≡ type_entry names.now ty.now) }
+    ensures names { IfOk result (λ list. list ≡ map variant_name ty.now.variants) }
+    ensures rows { OnOk result (map field_row fields.new
+        ≡ (map field_row fields.old ++ map (field_entry names.now None) ty.now.fields) ++ variant_fields names.now 0 ty.now.variants) }
     ensures stop { IfErr result (IsStop (declaration_fault names.now ty.now)) }
 {
     let mut before = Names::new(alloc);
-    let mut fields = Items::new(alloc);
     read_fields(
         alloc,
         names,
         &mut before,
         None,
         ty.fields.as_slice(),
-        &mut fields,
+        fields,
     )?;
-    let variants = read_variants(
-        alloc,
-        names,
-        &mut before,
-        ty.variants.as_slice(),
-        &mut fields,
-    )?;
+    let variants = read_variants(alloc, names, &mut before, ty.variants.as_slice(), fields)?;
+    Ok(variants)
+}
+
+/// A type: its common fields, and then each variant in order.
+fn read_type(alloc: Global, names: &TypeNames, ty: &TypeDeclaration) -> Result<TypeRow, TextStop>
+    ensures met { OnOk result (declaration_fault names.now ty.now ≡ None) }
+    ensures row { IfOk result (λ row. type_row row ≡ type_entry names.now ty.now) }
+    ensures stop { IfErr result (IsStop (declaration_fault names.now ty.now)) }
+{
+    let mut fields = Items::new(alloc);
+    let variants = read_parts(alloc, names, ty, &mut fields)?;
     let name = Items::from_slice(alloc, ty.name.bytes.as_slice())?;
     Ok(TypeRow {
         name,
