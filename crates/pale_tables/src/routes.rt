@@ -13,7 +13,7 @@ use std::alloc::{AllocError, Global};
 use store_core::{ByteList, Route};
 
 /// How a chain of routes is joined.
-#[derive(Clone, Copy, Debug, PartialEq, Eq)]
+#[derive(Clone, Copy)]
 pub enum Chain {
     /// One after the other.
     Then,

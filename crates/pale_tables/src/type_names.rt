@@ -19,7 +19,7 @@ use std::alloc::Global;
 use store_core::{TypeId, VariantId};
 
 /// Which fields `f` and `^f` follow.
-#[derive(Clone, Copy, Debug, PartialEq, Eq)]
+#[derive(Clone, Copy)]
 pub enum Followed {
     /// Data fields alone, as in the route of a pointer field.
     Data,
