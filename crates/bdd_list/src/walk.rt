@@ -149,7 +149,8 @@ fn list_from(
 /// Want of memory.
 pub fn list_nodes(alloc: Global, shelf: &Shelf, roots: &[NodeRef]) -> Result<Listing, AllocError>
     requires { All (IsValid shelf.now) roots.now }
-    ensures { IfOk result (IsListing shelf.now roots.now) }
+    ensures listing { IfOk result (IsListing shelf.now roots.now) }
+    ensures shelf { IsShelf shelf.now }
 {
     // Only for its clause `shelf`.
     let _ = shelf.count();

@@ -85,15 +85,14 @@ impl SetJoiner {
         ensures fits { OnOk result (FitsSets self.new dropped shelf.new (L.answers rule.new)) }
         ensures may_ask_still { (asked : List ℕ) → L.may_ask rule.old asked → L.may_ask rule.new asked }
     {
-        // Only for its clause `shelf`.
-        let _ = shelf.count();
+        let limit = shelf.limit();
         put_set(&mut self.set, roots)?;
         if let Some(made) = self.kept.memo.get(&self.set) {
             return Ok(*made);
         }
         let set = Vec::from_slice(alloc, self.set.as_slice())?;
         self.largest = self.largest.max(set.len());
-        self.kept.most = most_results(self.largest, shelf.limit());
+        self.kept.most = most_results(self.largest, limit);
         let walk = SetRoots { dropped };
         join_kept(alloc, &walk, shelf, &mut self.kept, set, rule)
     }

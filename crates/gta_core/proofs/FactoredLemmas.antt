@@ -3,9 +3,11 @@ use Rattle.std.proofs.Common.{◌≡◌, ℕ, zero, suc, ◌+◌, ◌*◌, ◌<�
 use Rattle.std.specs.Prelude.{slice_get, slice_index, unwrap_or, option_map, option_and_then}
 use Rattle.std.proofs.lemmas.Option.{unwrap_or-slice_get}
 use Rattle.bdd_nodes.specs.declared.node_ref.NodeRef.{NodeRef}
-use Rattle.bdd_nodes.specs.Shelf.{Contents, roots_of, root_of}
+use Rattle.bdd_nodes.specs.Roots.{Registered, roots_under}
+use Rattle.bdd_nodes.specs.Shelf.{Contents, IsShelf, roots_of, root_of}
+use Rattle.bdd_nodes.specs.Changes.{SameTables}
 use Rattle.gta_core.specs.declared.part.Part.{Part}
-use Rattle.gta_core.specs.Auto.{AutoView, place_in, table_of, root_among, root_at}
+use Rattle.gta_core.specs.Auto.{AutoView, AreRootsOf, place_in, table_of, root_among, root_at}
 use Rattle.gta_core.specs.Factored.{factored_root}
 
 slice_get-none : {X : Type 0} (k : ℕ) → slice_get {X = X} [] k ≡ None
@@ -93,3 +95,11 @@ root_among-is shelf a s part there l r = by-place (place_in part l r)
     by-place : (place : Option ℕ) → option_and_then (slice_get (table_of shelf a)) place ≡ option_and_then (root_of shelf a.table) place
     by-place None = refl
     by-place (Some place) = sym (root-in (roots_of shelf a.table) place)
+
+-- joins leave the roots of an automaton as they are
+pub AreRootsOf-kept : (old new : Contents) → IsShelf new → SameTables old new → (a : AutoView) (roots : List NodeRef) →
+    AreRootsOf old a roots → AreRootsOf new a roots
+AreRootsOf-kept old new is_shelf same a roots were = record {
+  is_shelf = is_shelf;
+  are = were.are ∙ sym (ap (λ (registered : Registered). unwrap_or (roots_under registered.tables a.table) []) same);
+}

@@ -3,7 +3,7 @@
 use Rattle.std.specs.Prelude.{◌≡◌, ℕ, ◌+◌, ◌*◌, ◌^◌, ◌≤◌, Bool, false, List, [], length, map, ◌↔◌, slice_get}
 use Rattle.std.specs.Prelude.{Option, Some, IsSome, unwrap_or, option_map, option_and_then}
 use Rattle.bdd_nodes.specs.declared.node_ref.NodeRef.{NodeRef}
-use Rattle.bdd_nodes.specs.Shelf.{Contents, state_of, roots_of, root_of}
+use Rattle.bdd_nodes.specs.Shelf.{Contents, IsShelf, state_of, roots_of, root_of}
 use Rattle.gta_theory.specs.Guides.{Spaces, IsGuide, IsSpace}
 use Rattle.gta_theory.specs.Automata.{Automaton, IsStable}
 use Rattle.gta_theory.specs.Constructions.{IsClosed}
@@ -51,6 +51,11 @@ root_at shelf a s l r = option_and_then (root_of shelf a.table) (place_of a s l 
 -- the roots of its table, one space after the other; none where it isn't registered
 abbrev pub table_of : Contents → AutoView → List NodeRef
 table_of shelf a = unwrap_or (roots_of shelf a.table) []
+
+-- the roots are those of its table in this shelf
+pub record AreRootsOf (shelf : Contents) (a : AutoView) (roots : List NodeRef) : Type 0 where
+  pub is_shelf : IsShelf shelf
+  pub are : roots ≡ table_of shelf a
 
 -- the root of a pair of child states of a space with this part, where the table has these roots; none for an unknown state
 abbrev pub root_among : List NodeRef → Part → ℕ → ℕ → Option NodeRef

@@ -2,7 +2,7 @@
 use Rattle.std.specs.Prelude.{◌≡◌, ℕ, ◌+◌, ◌*◌, Bool, false, ◌&&◌, nat_lt, if◌then◌else◌, List, length, All, slice_get}
 use Rattle.std.specs.Prelude.{Option, Some, None, unwrap_or, option_map, option_and_then}
 use Rattle.bdd_nodes.specs.declared.node_ref.NodeRef.{NodeRef}
-use Rattle.bdd_nodes.specs.Shelf.{Contents, IsValid, state_of}
+use Rattle.bdd_nodes.specs.Shelf.{Contents, IsShelf, IsValid, state_of}
 use Rattle.gta_theory.specs.Guides.{Spaces, left, right}
 use Rattle.gta_theory.specs.Automata.{Automaton, IsStable}
 use Rattle.gta_theory.specs.Constructions.{IsClosed}
@@ -32,8 +32,9 @@ given_automaton g shelf spaces accepting = record {
   accepting = λ q. unwrap_or (slice_get accepting q) false;
 }
 
--- it has a valid root for each pair of child states, what its steps give are states, and it is stable
+-- in this shelf it has a valid root for each pair of child states, what its steps give are states, and it is stable
 pub record IsGiven (g : Spaces) (shelf : Contents) (spaces : List SpacePart) (accepting : List Bool) : Type 0 where
+  pub is_shelf : IsShelf shelf
   pub each_space : length spaces ≡ length g
   pub each_state : length accepting ≡ given_states spaces 0
   pub complete : (s : ℕ) (part : SpacePart) → slice_get spaces s ≡ Some part →

@@ -27,14 +27,13 @@ pub fn accepts(alloc: Global, a: &Auto, shelf: &Shelf, tree: &LabelTree) -> Resu
     ensures { IfOk result (λ answer. IsTrue answer
         ↔ Accepts (guide_of a.now) (automaton_of shelf.now a.now) (assignment_of tree.now)) }
 {
-    // Only for its clause `whole`.
-    let _ = a.states(0);
+    let of_none = a.initial_state(0);
     let nodes = tree.nodes();
     let spaces = spaces_of(alloc, a, nodes)?;
     let values = values_of(alloc, a, shelf, nodes, &spaces)?;
     let state = match values.last() {
         Some(state) => *state,
-        None => a.initial_state(0),
+        None => of_none,
     };
     Ok(a.is_accepting(state))
 }

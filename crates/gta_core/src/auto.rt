@@ -9,7 +9,7 @@ ghost use Rattle.gta_theory.specs.Guides.{Spaces, IsSpace, left, right};
 ghost use Rattle.gta_theory.specs.Numbered.{Below};
 ghost use Rattle.gta_theory.specs.Sizes.{IsChildPair};
 ghost use Rattle.gta_core.specs.declared.part.Part.{Part};
-ghost use Rattle.gta_core.specs.Auto.{states_of, initial_of, is_accepting, guide_of, place_of, table_of, root_among, root_at, automaton_of, IsAuto, IsWhole};
+ghost use Rattle.gta_core.specs.Auto.{states_of, initial_of, is_accepting, guide_of, place_of, AreRootsOf, root_among, root_at, automaton_of, IsAuto, IsWhole};
 ghost use Rattle.gta_core.specs.Changes.{AddsOneTable};
 
 use crate::part::Part;
@@ -108,9 +108,11 @@ impl Auto {
     ///
     /// Want of memory.
     pub fn roots(&self, alloc: Global, shelf: &Shelf) -> Result<RefList, NoMemory>
-        ensures table { IfOk result (λ roots. roots ≡ table_of shelf.now self.now) }
+        ensures table { IfOk result (AreRootsOf shelf.now self.now) }
         ensures roots { IfOk result (λ roots. (s l r : ℕ) (part : Part) → slice_get self.now.parts s ≡ Some part →
             root_among roots part l r ≡ root_at shelf.now self.now s l r) }
+        ensures shelf { IsShelf shelf.now }
+        ensures whole { IsWhole self.now }
     {
         let roots = roots_in(alloc, shelf, self.table)?;
         Ok(roots)
@@ -172,11 +174,9 @@ impl Auto {
         ensures err { OnErr result (shelf.new ≡ shelf.old) }
         ensures shelf { IsShelf shelf.new }
     {
-        // Only for its clause `shelf`.
-        let _ = shelf.count();
+        let roots = roots_in(alloc, shelf, self.table)?;
         let parts = copies(alloc, self.parts.as_slice())?;
         let accepting = Items::from_slice(alloc, self.accepting.as_slice())?;
-        let roots = roots_in(alloc, shelf, self.table)?;
         let table = shelf.add_table(roots)?;
         Ok(Auto {
             table,
@@ -206,7 +206,8 @@ impl Auto {
     /// The initial state of a space; 0 for an unknown space.
     #[inline]
     pub(crate) fn initial_state(&self, space: u32) -> u32
-        ensures { result ≡ initial_of self.now space }
+        ensures value { result ≡ initial_of self.now space }
+        ensures whole { IsWhole self.now }
     {
         match self.parts.get(space as usize) {
             Some(part) => part.initial,
@@ -266,7 +267,8 @@ fn flipped(flags: BoolList) -> BoolList
 
 /// The roots of a table; none for an unknown one.
 fn roots_in(alloc: Global, shelf: &Shelf, table: TableId) -> Result<RefList, NoMemory>
-    ensures { IfOk result (λ roots. roots ≡ unwrap_or (roots_of shelf.now (number_of table)) []) }
+    ensures roots { IfOk result (λ roots. roots ≡ unwrap_or (roots_of shelf.now (number_of table)) []) }
+    ensures shelf { IsShelf shelf.now }
 {
     match shelf.roots(table) {
         Some(roots) => RefList::from_slice(alloc, roots),

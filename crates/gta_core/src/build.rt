@@ -52,8 +52,6 @@ impl Auto {
         ensures err { OnErr result (shelf.new ≡ shelf.old) }
         ensures shelf { IsShelf shelf.new }
     {
-        // Only for their clauses `shelf` and `guide`.
-        let _ = (shelf.count(), g.children(0));
         let mut roots = RefList::new(alloc);
         let parts = parts_of(alloc, g, spaces.as_slice(), &mut roots)?;
         let table = shelf.add_table(roots)?;
@@ -81,6 +79,7 @@ fn parts_of(
     requires none { roots.old ≡ [] }
     ensures many { IfOk result (λ parts. length parts ≡ length g.now) }
     ensures placed { IfOk result (λ parts. ArePlaced g.now spaces.now parts roots.new) }
+    ensures guide { IsGuide g.now }
 {
     let mut parts = Items::new(alloc);
     for space in 0..g.spaces() {

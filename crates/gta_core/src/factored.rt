@@ -2,7 +2,7 @@
 
 ghost use Rattle.std.specs.Prelude.{◌≡◌, ◌<◌, ◌^◌, ℕ, List, [], All, IfOk, drop, take, unwrap_or, slice_index};
 ghost use Rattle.bdd_nodes.specs.Roots.{number_of};
-ghost use Rattle.bdd_nodes.specs.Shelf.{IsValid, roots_of};
+ghost use Rattle.bdd_nodes.specs.Shelf.{IsShelf, IsValid, roots_of};
 ghost use Rattle.gta_theory.specs.Guides.{IsSpace};
 ghost use Rattle.gta_core.specs.Auto.{guide_of, root_at};
 ghost use Rattle.gta_core.specs.Factored.{factored_root};
@@ -43,15 +43,17 @@ impl Auto {
         requires { IsSpace (guide_of self.now) space }
         ensures roots { IfOk result (λ part. (l r : ℕ) → factored_root part l r ≡ root_at shelf.now self.now space l r) }
         ensures valid { IfOk result (λ part. All (IsValid shelf.now) part.roots) }
+        ensures shelf { IsShelf shelf.now }
     {
         let part = &self.parts.as_slice()[space as usize];
         let cells = part.cells.as_slice();
+        let roots = roots_from(alloc, shelf, self.table, part.first as usize, above(cells))?;
         Ok(FactoredPart {
             rows: Items::from_slice(alloc, part.rows.as_slice())?,
             columns: Items::from_slice(alloc, part.columns.as_slice())?,
             width: part.width,
             cells: Items::from_slice(alloc, cells)?,
-            roots: roots_from(alloc, shelf, self.table, part.first as usize, above(cells))?,
+            roots,
         })
     }
 }
@@ -94,6 +96,7 @@ fn roots_from(
 ) -> Result<RefList, NoMemory>
     ensures value { IfOk result (λ roots. roots ≡ take many (drop first (unwrap_or (roots_of shelf.now (number_of table)) []))) }
     ensures valid { IfOk result (λ roots. All (IsValid shelf.now) roots) }
+    ensures shelf { IsShelf shelf.now }
 {
     match shelf.roots(table) {
         Some(roots) => RefList::from_slice(alloc, window(roots, first, many)),

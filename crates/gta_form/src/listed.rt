@@ -1,6 +1,7 @@
 //! Forms of automata of a shelf.
 
 ghost use Rattle.std.specs.Prelude.{◌≡◌, ◌<◌, ℕ, length, IfOk, Some, slice_get};
+ghost use Rattle.bdd_nodes.specs.Shelf.{IsShelf};
 ghost use Rattle.gta_core.specs.Auto.{states_of, is_accepting, IsAuto, IsWhole};
 ghost use Rattle.gta_refine.specs.Form.{IsForm};
 ghost use Rattle.gta_form.specs.Listed.{IsSpaceOf, IsFormOf};
@@ -24,7 +25,8 @@ fn form_space(
 ) -> Result<FormSpace, NoMemory>
     requires auto { IsAuto g.now shelf.now a.now }
     requires inside { space < length g.now }
-    ensures { IfOk result (IsSpaceOf g.now shelf.now a.now space) }
+    ensures part { IfOk result (IsSpaceOf g.now shelf.now a.now space) }
+    ensures shelf { IsShelf shelf.now }
 {
     let part = a.factored(alloc, shelf, space)?;
     let listing = list_nodes(alloc, shelf, part.roots.as_slice())?;
@@ -62,6 +64,7 @@ pub fn form_of(alloc: Global, g: &Guide, a: &Auto, shelf: &Shelf) -> Result<Form
     requires { IsAuto g.now shelf.now a.now }
     ensures form { IfOk result IsForm }
     ensures same { IfOk result (IsFormOf g.now shelf.now a.now) }
+    ensures shelf { IsShelf shelf.now }
 {
     let mut spaces = Items::new(alloc);
     for space in 0..g.spaces() {

@@ -235,8 +235,6 @@ fn build_product(
     ensures limit { result ≡ Err Stop.Limit → PairsLimit g.now shelf.old a.now b.now kept.old }
     ensures guide { IsGuide g.now }
 {
-    // Only for its clause `guide`.
-    let _ = g.spaces();
     match product(alloc, g, a, b, shelf) {
         Err(Stop::Limit) => {
             kept.make_room(shelf);
@@ -262,8 +260,6 @@ fn build_projection(
     ensures limit { result ≡ Err Stop.Limit → SetsLimit g.now shelf.old a.now t kept.old }
     ensures guide { IsGuide g.now }
 {
-    // Only for its clause `guide`.
-    let _ = g.spaces();
     match project(alloc, g, a, t, shelf) {
         Err(Stop::Limit) => {
             kept.make_room(shelf);

@@ -52,8 +52,6 @@ pub fn minimise(alloc: Global, g: &Guide, a: &Auto, shelf: &mut Shelf) -> Result
     ensures tables { OnErr result (SameTables shelf.old shelf.new) }
     ensures shelf { IsShelf shelf.new }
 {
-    // Only for its clause `shelf`.
-    let _ = shelf.count();
     let form = form_of(alloc, g, a, shelf)?;
     let classes = refine(alloc, &form)?;
     let table = quotient_spaces(alloc, g, a, &form, classes.as_slice(), shelf)?;

@@ -35,7 +35,6 @@ module _ (g : Spaces) (AB : Automaton (ℕ × ℕ)) where
   Goes-none shelf spaces is_shelf = record {
     extends = ExtendAll-refl spaces;
     keeps = Keeps-refl shelf;
-    same_limit = refl;
     tables = refl;
     shelf = is_shelf;
     building = λ start building. building;
@@ -46,7 +45,6 @@ module _ (g : Spaces) (AB : Automaton (ℕ × ℕ)) where
   Goes-trans old middle new before between after first second = record {
     extends = ExtendAll-trans before between after first.extends second.extends;
     keeps = Keeps-trans old middle new first.keeps second.keeps;
-    same_limit = second.same_limit ∙ first.same_limit;
     tables = second.tables ∙ first.tables;
     shelf = second.shelf;
     building = λ start building. second.building start (first.building start building);
@@ -85,7 +83,6 @@ module _ (g : Spaces) (AB : Automaton (ℕ × ℕ)) (s : ℕ) (inside : IsSpace 
   Goes-fill = record {
     extends = ExtendAll-set spaces (slice_set spaces s after) s before after sets joins.extends;
     keeps = joins.keeps;
-    same_limit = joins.same_limit;
     tables = joins.tables;
     shelf = joins.shelf;
     building = Building-set g AB s inside spaces (slice_set spaces s after) before after are sets rows columns row-generated column-generated

@@ -2,29 +2,23 @@
 use Rattle.std.proofs.Common.{◌≡◌, ℕ, ◌<◌, List, [], length, get_or, Option, Some, None, slice_get, sym, ◌∙◌, ap}
 use Rattle.std.specs.Prelude.{IsSome, unwrap_or, option_and_then}
 use Rattle.bdd_nodes.specs.declared.node_ref.NodeRef.{NodeRef}
-use Rattle.bdd_nodes.specs.Roots.{Registered, roots_under}
-use Rattle.bdd_nodes.specs.Shelf.{Contents, IsShelf, IsValid, limit_of, root_of}
+use Rattle.bdd_nodes.specs.Shelf.{Contents, IsShelf, IsValid, root_of}
 use Rattle.bdd_nodes.specs.Changes.{SameTables}
 use Rattle.gta_core.specs.declared.part.Part.{Part}
 use Rattle.gta_core.specs.Auto.{AutoView, place_of, table_of, root_among, root_at}
-use Rattle.gta_core.proofs.FactoredLemmas.{root_among-is}
+use Rattle.gta_core.proofs.FactoredLemmas.{root_among-is, AreRootsOf-kept}
 use Rattle.gta_product.specs.declared.tables.Tables.{Tables}
 use Rattle.gta_product.specs.Tables.{AreTables}
 use Rattle.gta_product.proofs.ShelfLemmas.{within-some, some-first}
 use Rattle.gta_product.proofs.PartLemmas.{get-at}
 
 -- joins leave the tables as they are
-pub AreTables-kept : (old new : Contents) → IsShelf new → limit_of new ≡ limit_of old → SameTables old new → (a b : AutoView) (tables : Tables) →
+pub AreTables-kept : (old new : Contents) → IsShelf new → SameTables old new → (a b : AutoView) (tables : Tables) →
     AreTables old a b tables → AreTables new a b tables
-AreTables-kept old new is_shelf same_limit same a b tables are = record {
-  is_shelf = is_shelf;
-  limit = are.limit ∙ sym same_limit;
-  first = are.first ∙ sym (table-kept a);
-  second = are.second ∙ sym (table-kept b);
+AreTables-kept old new is_shelf same a b tables are = record {
+  first = AreRootsOf-kept old new is_shelf same a tables.first are.first;
+  second = AreRootsOf-kept old new is_shelf same b tables.second are.second;
 }
-  where
-    table-kept : (c : AutoView) → table_of new c ≡ table_of old c
-    table-kept c = ap (λ (roots : Registered). unwrap_or (roots_under roots.tables c.table) []) same
 
 -- a space with a root is one that the automaton has
 pub space-known : (shelf : Contents) (a : AutoView) (s l r : ℕ) → IsSome (root_at shelf a s l r) → s < length a.parts

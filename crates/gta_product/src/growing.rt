@@ -191,7 +191,7 @@ fn grow_space(
     if exceeds(
         growth.rows.ones.len(),
         growth.columns.ones.len(),
-        tables.limit,
+        shelf.limit(),
     ) {
         return Err(Stop::Limit);
     }

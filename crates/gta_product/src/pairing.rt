@@ -63,6 +63,7 @@ pub fn product(
     ensures tables { OnErr result (SameTables shelf.old shelf.new) }
     ensures same_limit { limit_of shelf.new ≡ limit_of shelf.old }
     ensures shelf { IsShelf shelf.new }
+    ensures guide { IsGuide g.now }
 {
     let tables = Tables::read(alloc, a, b, shelf)?;
     let settled = settle(alloc, g, a, b, &tables, shelf)?;

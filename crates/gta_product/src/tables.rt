@@ -1,8 +1,8 @@
-//! What is read from the shelf at the start.
+//! The roots of two automata.
 
 ghost use Rattle.std.specs.Prelude.{◌≡◌, Some, IsSome, IfOk};
 ghost use Rattle.bdd_nodes.specs.Shelf.{IsShelf, IsValid};
-ghost use Rattle.gta_core.specs.Auto.{table_of, root_at};
+ghost use Rattle.gta_core.specs.Auto.{AreRootsOf, root_at, IsWhole};
 ghost use Rattle.gta_product.specs.Tables.{AreTables};
 
 use bdd_nodes::{NodeRef, RefList, Shelf};
@@ -10,13 +10,11 @@ use bdd_walk::NoMemory;
 use gta_core::Auto;
 use std::alloc::Global;
 
-/// The roots of both automata, as their tables have them: read once, and not looked up in the shelf for each join. And the
-/// limit of the shelf's nodes.
+/// The roots of both automata, as their tables have them: read once, and not looked up in the shelf for each join.
 #[derive(Drop)]
 pub(crate) struct Tables {
     pub(crate) first: RefList,
     pub(crate) second: RefList,
-    pub(crate) limit: u32,
 }
 
 impl Tables {
@@ -24,12 +22,11 @@ impl Tables {
     pub(crate) fn read(alloc: Global, a: &Auto, b: &Auto, shelf: &Shelf) -> Result<Tables, NoMemory>
         ensures tables { IfOk result (AreTables shelf.now a.now b.now) }
         ensures shelf { IsShelf shelf.now }
+        ensures whole { IsWhole a.now }
     {
-        let limit = shelf.limit();
         Ok(Tables {
             first: a.roots(alloc, shelf)?,
             second: b.roots(alloc, shelf)?,
-            limit,
         })
     }
 }
@@ -44,8 +41,7 @@ pub(crate) fn root_in(
     left: u32,
     right: u32,
 ) -> NodeRef
-    requires shelf { IsShelf _shelf.now }
-    requires table { table.now ≡ table_of _shelf.now a.now }
+    requires table { AreRootsOf _shelf.now a.now table.now }
     requires known { IsSome (root_at _shelf.now a.now space left right) }
     ensures value { root_at _shelf.now a.now space left right ≡ Some result }
     ensures valid { IsValid _shelf.now result }

@@ -4,9 +4,8 @@ ghost use Rattle.std.specs.Prelude.{◌≡◌, ℕ, List, [], ◌∷◌, Some, E
 ghost use Rattle.bdd_walk.specs.Answers.{Completes};
 ghost use Rattle.bdd_walk.specs.Fits.{FitsSets};
 ghost use Rattle.bdd_nodes.specs.Shelf.{IsValid};
-ghost use Rattle.gta_core.specs.Auto.{root_at, automaton_of};
+ghost use Rattle.gta_core.specs.Auto.{AreRootsOf, root_at, automaton_of};
 ghost use Rattle.gta_subsets.specs.Subsets.{set_step};
-ghost use Rattle.gta_subsets.specs.Roots.{IsTableOf};
 ghost use Rattle.gta_subsets.specs.Numbers.{number_in, numbered, AreNumbers};
 ghost use Rattle.gta_subsets.specs.Classes.{HaveClasses};
 ghost use Rattle.gta_subsets.specs.Shorts.{rows_in, columns_in, AreShorts};
@@ -36,7 +35,7 @@ fn join_cell(
     joiner: &mut SetJoiner,
     numbers: &mut Numbering,
 ) -> Result<NodeRef, Stop>
-    requires table { IsTableOf shelf.old a.now table.now }
+    requires table { AreRootsOf shelf.old a.now table.now }
     requires known { (l r : ℕ) → Contains left.now l → Contains right.now r → IsSome (root_at shelf.old a.now space l r) }
     requires rows { HaveClasses (rows_in a.now space) left.now short_left.now }
     requires columns { HaveClasses (columns_in a.now space) right.now short_right.now }
@@ -72,7 +71,7 @@ fn fill_row(
     numbers: &mut Numbering,
     roots: &mut RefList,
 ) -> Result<(), Stop>
-    requires table { IsTableOf shelf.old a.now table.now }
+    requires table { AreRootsOf shelf.old a.now table.now }
     requires known { (column : List ℕ) → Contains columns.now column → (l r : ℕ) → Contains row.now l → Contains column r →
         IsSome (root_at shelf.old a.now space l r) }
     requires short { HaveClasses (rows_in a.now space) row.now short.now }
@@ -118,7 +117,7 @@ pub(crate) fn fill(
     numbers: &mut Numbering,
     roots: &mut RefList,
 ) -> Result<(), Stop>
-    requires table { IsTableOf shelf.old a.now table.now }
+    requires table { AreRootsOf shelf.old a.now table.now }
     requires known { (row column : List ℕ) → Contains rows.now row → Contains columns.now column → (l r : ℕ) → Contains row l →
         Contains column r → IsSome (root_at shelf.old a.now space l r) }
     requires valid { All (IsValid shelf.old) roots.old }

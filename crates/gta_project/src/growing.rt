@@ -4,8 +4,7 @@ ghost use Rattle.std.specs.Prelude.{◌≡◌, ◌<◌, ◌*◌, ◌⊎◌, ℕ,
 ghost use Rattle.gta_theory.specs.Automata.{Automaton};
 ghost use Rattle.gta_theory.specs.Guides.{left, right};
 ghost use Rattle.gta_subsets.specs.Subsets.{subsets, AreInitial};
-ghost use Rattle.gta_subsets.specs.Roots.{IsTableOf};
-ghost use Rattle.gta_core.specs.Auto.{AutoView, automaton_of, IsAuto};
+ghost use Rattle.gta_core.specs.Auto.{AutoView, AreRootsOf, automaton_of, IsAuto};
 ghost use Rattle.gta_project.specs.Building.{AreSpaces, FitAll};
 ghost use Rattle.gta_project.specs.Growing.{AreGenerated, IsKeyed, HasSeen, HaveSeen, Goes, LacksRoom};
 
@@ -97,7 +96,7 @@ pub(crate) fn grow(
     growths: &mut Vec<Growth>,
 ) -> Result<(), Stop>
     requires auto { IsAuto g.now shelf.old a.now }
-    requires table { IsTableOf shelf.old a.now table.now }
+    requires table { AreRootsOf shelf.old a.now table.now }
     requires initials { AreInitial g.now (automaton_of shelf.old a.now) track initials.now }
     requires spaces { AreSpaces g.now (subsets (automaton_of shelf.old a.now) track initials.now) numbers.old.items }
     requires seen { HaveSeen g.now (subsets (automaton_of shelf.old a.now) track initials.now) a.now growths.old.items }
@@ -137,7 +136,7 @@ fn grow_once(
     growths: &mut Vec<Growth>,
 ) -> Result<(), Stop>
     requires auto { IsAuto g.now shelf.old a.now }
-    requires table { IsTableOf shelf.old a.now table.now }
+    requires table { AreRootsOf shelf.old a.now table.now }
     requires initials { AreInitial g.now (automaton_of shelf.old a.now) track initials.now }
     requires spaces { AreSpaces g.now (subsets (automaton_of shelf.old a.now) track initials.now) numbers.old.items }
     requires seen { HaveSeen g.now (subsets (automaton_of shelf.old a.now) track initials.now) a.now growths.old.items }
@@ -175,7 +174,7 @@ fn grow_space(
     growth: &mut Growth,
 ) -> Result<(), Stop>
     requires auto { IsAuto g.now shelf.old a.now }
-    requires table { IsTableOf shelf.old a.now table.now }
+    requires table { AreRootsOf shelf.old a.now table.now }
     requires initials { AreInitial g.now (automaton_of shelf.old a.now) track initials.now }
     requires spaces { AreSpaces g.now (subsets (automaton_of shelf.old a.now) track initials.now) numbers.old.items }
     requires inside { space < length g.now }
@@ -272,7 +271,7 @@ fn join_sets(
     numbers: &mut Vec<Numbering>,
 ) -> Result<(), Stop>
     requires auto { IsAuto _g.now shelf.old a.now }
-    requires table { IsTableOf shelf.old a.now table.now }
+    requires table { AreRootsOf shelf.old a.now table.now }
     requires initials { AreInitial _g.now (automaton_of shelf.old a.now) track _initials.now }
     requires spaces { AreSpaces _g.now (subsets (automaton_of shelf.old a.now) track _initials.now) numbers.old.items }
     requires inside { space < length _g.now }

@@ -9,12 +9,11 @@ ghost use Rattle.gta_theory.specs.Guides.{Spaces, IsGuide, IsSpace, left, right}
 ghost use Rattle.gta_theory.specs.Automata.{Automaton, Accepts, Has};
 ghost use Rattle.gta_theory.specs.Constructions.{IsSubset};
 ghost use Rattle.gta_theory.specs.Sizes.{SizeOf};
-ghost use Rattle.gta_core.specs.Auto.{states_of, is_accepting, automaton_of, IsAuto};
+ghost use Rattle.gta_core.specs.Auto.{states_of, is_accepting, AreRootsOf, automaton_of, IsAuto};
 ghost use Rattle.gta_core.specs.Changes.{RegistersTable};
 ghost use Rattle.gta_core.specs.Placing.{Grows};
 ghost use Rattle.bdd_walk.specs.Sets.{IsSet};
 ghost use Rattle.gta_subsets.specs.Subsets.{subsets, AreInitial};
-ghost use Rattle.gta_subsets.specs.Roots.{IsTableOf};
 ghost use Rattle.gta_project.specs.Project.{IsSubsetOf};
 ghost use Rattle.gta_project.specs.Building.{AreSpaces, FitAll, ExtendAll, Building, CompleteAll, ExceedsSteps, IsPartOf, AreParts, Leaves, Exceeded};
 ghost use Rattle.gta_project.specs.Settled.{IsSettled};
@@ -65,12 +64,12 @@ pub fn project(
     ensures tables { OnErr result (SameTables shelf.old shelf.new) }
     ensures same_limit { limit_of shelf.new ≡ limit_of shelf.old }
     ensures shelf { IsShelf shelf.new }
+    ensures guide { IsGuide g.now }
 {
-    let room = room_for(shelf.limit());
     let roots = a.roots(alloc, shelf)?;
     let table = roots.as_slice();
     let initials = initial_sets(alloc, g, a, table, t.0, shelf)?;
-    let settled = settle(alloc, g, a, table, t.0, initials.as_slice(), room, shelf)?;
+    let settled = settle(alloc, g, a, table, t.0, initials.as_slice(), shelf)?;
     let Settled {
         numbers,
         parts,
@@ -89,9 +88,7 @@ pub(crate) struct Settled {
     pub(crate) roots: RefList,
 }
 
-/// Joins for the sets as they come, until none comes; and then once more for all sets, which gives the roots. The sets of a
-/// space have room for so many states together.
-#[allow(clippy::too_many_arguments)]
+/// Joins for the sets as they come, until none comes; and then once more for all sets, which gives the roots.
 fn settle(
     alloc: Global,
     g: &Guide,
@@ -99,18 +96,17 @@ fn settle(
     table: &[NodeRef],
     track: u32,
     initials: &[StateList],
-    room: usize,
     shelf: &mut Shelf,
 ) -> Result<Settled, Stop>
     requires auto { IsAuto g.now shelf.old a.now }
-    requires table { IsTableOf shelf.old a.now table.now }
+    requires table { AreRootsOf shelf.old a.now table.now }
     requires initials { AreInitial g.now (automaton_of shelf.old a.now) track initials.now }
     ensures leaves { Leaves shelf.old shelf.new }
     ensures limit { result ≡ Err Stop.Limit → Exceeded g.now (subsets (automaton_of shelf.old a.now) track initials.now) shelf.old }
     ensures settled { IfOk result (IsSettled g.now (subsets (automaton_of shelf.old a.now) track initials.now) a.now shelf.old shelf.new) }
     ensures guide { IsGuide g.now }
 {
-    let mut numbers = start(alloc, g, initials, room)?;
+    let mut numbers = start(alloc, g, initials, room_for(shelf.limit()))?;
     let mut joiners = joiners(alloc, g)?;
     let mut growths = growths(alloc, g)?;
     loop {
@@ -233,7 +229,7 @@ fn parts_of(
     roots: &mut RefList,
 ) -> Result<Items<Part>, Stop>
     requires auto { IsAuto g.now shelf.old a.now }
-    requires table { IsTableOf shelf.old a.now table.now }
+    requires table { AreRootsOf shelf.old a.now table.now }
     requires initials { AreInitial g.now (automaton_of shelf.old a.now) track initials.now }
     requires spaces { AreSpaces g.now (subsets (automaton_of shelf.old a.now) track initials.now) numbers.old.items }
     requires fits { FitAll track shelf.old joiners.old.items numbers.old.items }
@@ -279,7 +275,7 @@ fn part_of(
     roots: &mut RefList,
 ) -> Result<Part, Stop>
     requires auto { IsAuto g.now shelf.old a.now }
-    requires table { IsTableOf shelf.old a.now table.now }
+    requires table { AreRootsOf shelf.old a.now table.now }
     requires initials { AreInitial g.now (automaton_of shelf.old a.now) track _initials.now }
     requires spaces { AreSpaces g.now (subsets (automaton_of shelf.old a.now) track _initials.now) numbers.old.items }
     requires fits { FitAll track shelf.old joiners.old.items numbers.old.items }

@@ -5,9 +5,9 @@ ghost use Rattle.labels.specs.Labels.{empty_label, with_track};
 ghost use Rattle.bdd_nodes.specs.Shelf.{IsValid, state_of, label_of};
 ghost use Rattle.bdd_walk.specs.Asked.{leaves_of};
 ghost use Rattle.gta_theory.specs.Guides.{IsGuide, IsSpace};
-ghost use Rattle.gta_core.specs.Auto.{states_of, initial_of, root_at, automaton_of, IsAuto};
+ghost use Rattle.gta_core.specs.Auto.{states_of, initial_of, AreRootsOf, root_at, automaton_of, IsAuto};
 ghost use Rattle.gta_subsets.specs.Subsets.{AreInitial};
-ghost use Rattle.gta_subsets.specs.Roots.{IsTableOf, AreRoots};
+ghost use Rattle.gta_subsets.specs.Roots.{AreRoots};
 ghost use Rattle.gta_subsets.specs.Closing.{set_at, IsNext, AreNext, AreSettled};
 
 use crate::roots::{make_distinct, roots_at};
@@ -29,7 +29,7 @@ pub fn initial_sets(
     shelf: &Shelf,
 ) -> Result<Items<StateList>, NoMemory>
     requires auto { IsAuto g.now shelf.now a.now }
-    requires table { IsTableOf shelf.now a.now table.now }
+    requires table { AreRootsOf shelf.now a.now table.now }
     ensures { IfOk result (AreInitial g.now (automaton_of shelf.now a.now) track) }
 {
     let mut sets = Items::new(alloc);
@@ -91,7 +91,7 @@ fn next_sets(
     sets: &[StateList],
 ) -> Result<Items<StateList>, NoMemory>
     requires auto { IsAuto g.now shelf.now a.now }
-    requires table { IsTableOf shelf.now a.now table.now }
+    requires table { AreRootsOf shelf.now a.now table.now }
     requires settled { AreSettled g.now (automaton_of shelf.now a.now) track sets.now }
     ensures next { IfOk result (AreNext g.now (automaton_of shelf.now a.now) track sets.now) }
     ensures guide { IsGuide g.now }
@@ -115,7 +115,7 @@ fn next_set(
     space: u32,
 ) -> Result<StateList, NoMemory>
     requires auto { IsAuto g.now shelf.now a.now }
-    requires table { IsTableOf shelf.now a.now table.now }
+    requires table { AreRootsOf shelf.now a.now table.now }
     requires settled { AreSettled g.now (automaton_of shelf.now a.now) track sets.now }
     requires inside { IsSpace g.now space }
     ensures { IfOk result (IsNext g.now (automaton_of shelf.now a.now) track sets.now space) }
@@ -143,7 +143,7 @@ fn roots_for(
     lefts: &[u32],
     rights: &[u32],
 ) -> Result<Vec<NodeRef>, NoMemory>
-    requires table { IsTableOf _shelf.now a.now table.now }
+    requires table { AreRootsOf _shelf.now a.now table.now }
     requires known { (l r : ℕ) → Contains lefts.now l → Contains rights.now r → IsSome (root_at _shelf.now a.now space l r) }
     ensures roots { IfOk result (λ roots. AreRoots (root_at _shelf.now a.now space) lefts.now rights.now roots.items) }
     ensures valid { IfOk result (λ roots. All (IsValid _shelf.now) roots.items) }

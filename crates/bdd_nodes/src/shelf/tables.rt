@@ -15,6 +15,7 @@ impl Shelf {
     pub fn root(&self, id: TableId, index: u32) -> Option<NodeRef>
         ensures value { result ≡ root_of self.now (number_of id) index }
         ensures valid { IfSome result (IsValid self.now) }
+        ensures shelf { IsShelf self.now }
     {
         self.roots.root(id, index)
     }
@@ -24,6 +25,7 @@ impl Shelf {
         ensures value { MatchOption result (roots_of self.now (number_of id) ≡ None)
             (λ roots. roots_of self.now (number_of id) ≡ Some roots.now) }
         ensures valid { IfSome result (λ roots. All (IsValid self.now) roots.now) }
+        ensures shelf { IsShelf self.now }
     {
         self.roots.roots(id)
     }

@@ -37,8 +37,8 @@ loop-index-preserved c =
       ];
     }
 
-pub returns : goal.returns
-returns c =
+pub returns-clause-listing : goal.returns-clause-listing
+returns-clause-listing c =
     let shelf = c.args.shelf.now in
     let roots = c.args.roots.now in
     let inv = c.loop-index.invariant in

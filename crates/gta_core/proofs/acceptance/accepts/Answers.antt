@@ -24,11 +24,11 @@ returns c =
       | in-Some w ↦ subst (λ (q : ℕ). IsLast values q (initial_of a 0)) (sym w.state-is)
           (IsLast-some values w.in-Some.state.now (initial_of a 0)
           (w.in-Some.ensures.value ∙ ap (λ (vs : List ℕ). slice_get vs (length vs - 1)) c.deref-2.ensures.value))
-      | in-None w ↦ subst (λ (q : ℕ). IsLast values q (initial_of a 0)) (sym (w.state-is ∙ w.initial_state-state.ensures))
+      | in-None w ↦ subst (λ (q : ℕ). IsLast values q (initial_of a 0)) (sym (w.state-is ∙ c.initial_state-of_none.ensures.value))
           (IsLast-none values (initial_of a 0) (w.in-None.ensures.value ∙ ap (λ (vs : List ℕ). slice_get vs (length vs - 1)) c.deref-2.ensures.value))
     ]) in
     let exactly : IsTrue (is_accepting a c.match-last.state) ↔ Accepts g (automaton_of shelf a) (assignment_of nodes) =
-    Accepts-last shelf a g c.states.ensures.whole.guide c.requires.stable nodes
+    Accepts-last shelf a g c.initial_state-of_none.ensures.whole.guide c.requires.stable nodes
     (subst IsTree (sym c.nodes-nodes.ensures.value) c.nodes-nodes.ensures.inside) spaces c.in_ok-spaces.ensures values are_values many
     c.match-last.state is_last in
     subst (λ (ns : List TreeNode). IsTrue c.is_accepting.result ↔ Accepts g (automaton_of shelf a) (assignment_of ns)) c.nodes-nodes.ensures.value

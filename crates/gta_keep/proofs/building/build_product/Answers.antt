@@ -93,7 +93,7 @@ returns-in-Err-Limit-clause-limit c =
     let was = c.args.shelf.now in
     let kept = c.args.kept.now in
     let xs : List AutoView = c.args.a.now ∷ c.args.b.now ∷ [] in
-    let guide = c.spaces.ensures.guide in
+    let guide = c.product.ensures.guide in
     let made = c.in-Err-Limit.ensures in
     let first = first_try g was c.product.new.shelf c.product.new.shelf xs kept kept c.requires made.shelf made.kept made.tables made.same_limit in
     limit-pairs g was c.product.new.shelf c.make_room.new.shelf kept c.make_room.new.self first (c.make_room.ensures.passes g)

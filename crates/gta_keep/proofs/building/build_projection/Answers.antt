@@ -78,7 +78,7 @@ returns-in-Err-Limit-clause-limit c =
     let was = c.args.shelf.now in
     let kept = c.args.kept.now in
     let xs : List AutoView = c.args.a.now ∷ [] in
-    let guide = c.spaces.ensures.guide in
+    let guide = c.project.ensures.guide in
     let made = c.in-Err-Limit.ensures in
     let first = first_try g was c.project.new.shelf c.project.new.shelf xs kept kept c.requires made.shelf made.kept made.tables made.same_limit in
     limit-sets g was c.project.new.shelf c.make_room.new.shelf kept c.make_room.new.self first (c.make_room.ensures.passes g)

@@ -14,7 +14,7 @@ references-requires-clause-inside c =
     let nodes = c.as_slice.result.now in
     let many : length c.deref.result.now ≡ length nodes =
     (let v = c.in_ok-refs.refs.ok.0 in let m = c.in_ok-refs.ensures.many in let e = ap length c.deref.ensures.value in omega arith) in
-    inside-read c.args.shelf.now c.make_nodes.new.shelf c.args.classes.now c.args.roots.now c.in_ok-listing.listing c.in_ok-listing.ensures
+    inside-read c.args.shelf.now c.make_nodes.new.shelf c.args.classes.now c.args.roots.now c.in_ok-listing.listing c.in_ok-listing.ensures.listing
     nodes c.as_slice-2.result.now c.deref.result.now c.as_slice.ensures c.as_slice-2.ensures many
 
 pub returns-in_err-refs-clause-adds : goal.returns-in_err-refs-clause-adds
@@ -25,7 +25,7 @@ returns-in_err-refs-clause-adds c =
     let roots = c.args.roots.now in
     let nodes = c.as_slice.result.now in
     Adds-also (IsRenamed classes nodes) (IsUnderRenamed old classes roots)
-    (under-read old new classes roots c.in_ok-listing.listing c.in_ok-listing.ensures nodes c.as_slice.ensures) old new c.make_nodes.ensures.adds
+    (under-read old new classes roots c.in_ok-listing.listing c.in_ok-listing.ensures.listing nodes c.as_slice.ensures) old new c.make_nodes.ensures.adds
 
 pub returns-in_err-refs-clause-stuck : goal.returns-in_err-refs-clause-stuck
 returns-in_err-refs-clause-stuck c = λ stopped.
@@ -35,7 +35,7 @@ returns-in_err-refs-clause-stuck c = λ stopped.
     let roots = c.args.roots.now in
     let nodes = c.as_slice.result.now in
     IsStuck-also (IsRenamed classes nodes) (IsUnderRenamed old classes roots)
-    (under-read old new classes roots c.in_ok-listing.listing c.in_ok-listing.ensures nodes c.as_slice.ensures) new (c.make_nodes.ensures.stuck
+    (under-read old new classes roots c.in_ok-listing.listing c.in_ok-listing.ensures.listing nodes c.as_slice.ensures) new (c.make_nodes.ensures.stuck
     (let why = rw stopped at c.from_residual-in_err-refs.ensures in c.in_err-refs.was ∙ (let is = why.1 in cc)))
 
 pub returns-in_err-renamed-clause-adds : goal.returns-in_err-renamed-clause-adds
@@ -46,7 +46,7 @@ returns-in_err-renamed-clause-adds c =
     let roots = c.args.roots.now in
     let nodes = c.as_slice.result.now in
     Adds-also (IsRenamed classes nodes) (IsUnderRenamed old classes roots)
-    (under-read old new classes roots c.in_ok-listing.listing c.in_ok-listing.ensures nodes c.as_slice.ensures) old new c.make_nodes.ensures.adds
+    (under-read old new classes roots c.in_ok-listing.listing c.in_ok-listing.ensures.listing nodes c.as_slice.ensures) old new c.make_nodes.ensures.adds
 
 pub returns-clause-adds : goal.returns-clause-adds
 returns-clause-adds c =
@@ -56,7 +56,7 @@ returns-clause-adds c =
     let roots = c.args.roots.now in
     let nodes = c.as_slice.result.now in
     Adds-also (IsRenamed classes nodes) (IsUnderRenamed old classes roots)
-    (under-read old new classes roots c.in_ok-listing.listing c.in_ok-listing.ensures nodes c.as_slice.ensures) old new c.make_nodes.ensures.adds
+    (under-read old new classes roots c.in_ok-listing.listing c.in_ok-listing.ensures.listing nodes c.as_slice.ensures) old new c.make_nodes.ensures.adds
 
 pub returns-clause-renamed : goal.returns-clause-renamed
 returns-clause-renamed c =
@@ -70,4 +70,4 @@ returns-clause-renamed c =
     let stand : StandFor classes refs listing.roots references =
     subst (λ (rs : List NodeRef). StandFor classes rs listing.roots references) c.deref.ensures.value
     (subst (λ (ls : List Listed). StandFor classes c.deref.result.now ls references) c.as_slice-2.ensures c.in_ok-renamed.ensures) in
-    AreRenamed-made c.args.shelf.now new classes c.args.roots.now listing c.in_ok-listing.ensures refs references numbered stand
+    AreRenamed-made c.args.shelf.now new classes c.args.roots.now listing c.in_ok-listing.ensures.listing refs references numbered stand

@@ -3,6 +3,7 @@ use Rattle.std.proofs.Common.{◌≡◌, ◌↔◌, ℕ, Bool, ◌&&◌, List, m
 use Rattle.bdd_nodes.specs.Shelf.{Contents, tables_added}
 use Rattle.bdd_nodes.specs.Changes.{Keeps, AddsTable, SameTables}
 use Rattle.bdd_nodes.proofs.CallerLemmas.{Keeps-trans, Keeps-same, Keeps-refl}
+use Rattle.gta_theory.specs.Guides.{IsGuide}
 use Rattle.gta_theory.specs.Automata.{Accepts}
 use Rattle.gta_theory.specs.Constructions.{pairs}
 use Rattle.gta_theory.proofs.AutomataLemmas.{Accepts-product}
@@ -143,3 +144,6 @@ returns-in_err-made-clause-same_limit c = ap (λ (shelf : Contents). shelf.limit
 
 pub returns-in_err-tables-clause-kept : goal.returns-in_err-tables-clause-kept
 returns-in_err-tables-clause-kept c = Keeps-refl c.args.shelf.now
+
+pub returns-in_err-tables-clause-guide : goal.returns-in_err-tables-clause-guide
+returns-in_err-tables-clause-guide c = subst IsGuide c.requires.first.over c.read.ensures.whole.guide

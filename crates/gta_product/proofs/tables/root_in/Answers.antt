@@ -14,18 +14,18 @@ bounds-parts-space c =
 pub unreachable-requires : goal.unreachable-requires
 unreachable-requires c =
     let read = root-read c.args._shelf.now c.args.a.now c.args.space c.args.left c.args.right c.requires.known c.parts.result.now c.parts.ensures.parts
-    c.index-parts-space.result c.index-parts-space.is c.args.table.now c.requires.table in
+    c.index-parts-space.result c.index-parts-space.is c.args.table.now c.requires.table.are in
     false≢true (subst (λ (o : Option NodeRef). IsSome o) (sym read ∙ sym c.root.ensures ∙ c.in-None.is) c.requires.known)
 
 pub returns-clause-value : goal.returns-clause-value
 returns-clause-value c =
     let read = root-read c.args._shelf.now c.args.a.now c.args.space c.args.left c.args.right c.requires.known c.parts.result.now c.parts.ensures.parts
-    c.index-parts-space.result c.index-parts-space.is c.args.table.now c.requires.table in
+    c.index-parts-space.result c.index-parts-space.is c.args.table.now c.requires.table.are in
     sym read ∙ sym c.root.ensures ∙ c.in-Some.is
 
 pub returns-clause-valid : goal.returns-clause-valid
 returns-clause-valid c =
     let read = root-read c.args._shelf.now c.args.a.now c.args.space c.args.left c.args.right c.requires.known c.parts.result.now c.parts.ensures.parts
-    c.index-parts-space.result c.index-parts-space.is c.args.table.now c.requires.table in
-    root-valid c.args._shelf.now c.requires.shelf c.args.a.now c.args.space c.args.left c.args.right c.in-Some.root
+    c.index-parts-space.result c.index-parts-space.is c.args.table.now c.requires.table.are in
+    root-valid c.args._shelf.now c.requires.table.is_shelf c.args.a.now c.args.space c.args.left c.args.right c.in-Some.root
     (sym read ∙ sym c.root.ensures ∙ c.in-Some.is)

@@ -3,11 +3,12 @@ use Rattle.std.proofs.Common.{◌≡◌, ◌++◌, Contains, ap, ℕ, List, Opti
 use Rattle.std.proofs.lemmas.List.{take_more}
 use Rattle.bdd_nodes.specs.declared.node_ref.NodeRef.{NodeRef}
 use Rattle.gta_subsets.specs.Subsets.{set_step}
+use Rattle.gta_core.proofs.FactoredLemmas.{AreRootsOf-kept}
 use Rattle.gta_core.specs.Auto.{automaton_of}
 use Rattle.gta_subsets.specs.Classes.{HaveClasses}
 use Rattle.gta_subsets.specs.Shorts.{rows_in, columns_in, AreShorts}
 use Rattle.gta_project.specs.Filling.{Stepping, IsRow, AreCells}
-use Rattle.gta_project.proofs.ShelfLemmas.{root_at-kept, IsTableOf-kept}
+use Rattle.gta_project.proofs.ShelfLemmas.{root_at-kept}
 use Rattle.gta_project.proofs.JoinsLemmas.{Joins-none, AreCells-more}
 use Rattle.gta_project.proofs.NextLemmas.{same-step, Joins-next, ExceedsCells-next, in-alone}
 use Rattle.gta_project.proofs.filling.fill.Goals as goal
@@ -19,7 +20,7 @@ returns-in_err-shorts-clause-joins c = Joins-none (set_step (automaton_of c.args
 pub fill_row-requires-clause-table : goal.fill_row-requires-clause-table
 fill_row-requires-clause-table c =
     let joins = c.loop-row.invariant.joins in
-    IsTableOf-kept c.args.shelf.now c.loop-row.shelf joins.shelf joins.tables c.args.a.now c.args.table.now c.requires.table
+    AreRootsOf-kept c.args.shelf.now c.loop-row.shelf joins.shelf joins.tables c.args.a.now c.args.table.now c.requires.table
 
 pub fill_row-requires-clause-short : goal.fill_row-requires-clause-short
 fill_row-requires-clause-short c =

@@ -5,9 +5,10 @@ use Rattle.std.proofs.lemmas.Option.{slice_get-get_or}
 use Rattle.bdd_nodes.specs.declared.node_ref.NodeRef.{NodeRef}
 use Rattle.bdd_nodes.specs.Shelf.{IsValid}
 use Rattle.gta_subsets.specs.Subsets.{set_step}
+use Rattle.gta_core.proofs.FactoredLemmas.{AreRootsOf-kept}
 use Rattle.gta_core.specs.Auto.{automaton_of}
 use Rattle.gta_project.specs.Filling.{Stepping, IsCell, IsRow}
-use Rattle.gta_project.proofs.ShelfLemmas.{root_at-kept, IsTableOf-kept}
+use Rattle.gta_project.proofs.ShelfLemmas.{root_at-kept}
 use Rattle.gta_project.proofs.JoinsLemmas.{IsRow-more}
 use Rattle.gta_project.proofs.NextLemmas.{same-step, Joins-next, ExceedsCells-next, valid-more, in-alone}
 use Rattle.gta_project.proofs.filling.fill_row.Goals as goal
@@ -27,7 +28,7 @@ join_cell-requires-clause-known c = λ l r in_l in_r.
 pub join_cell-requires-clause-table : goal.join_cell-requires-clause-table
 join_cell-requires-clause-table c =
     let joins = c.loop-at.invariant.joins in
-    IsTableOf-kept c.args.shelf.now c.loop-at.shelf joins.shelf joins.tables c.args.a.now c.args.table.now c.requires.table
+    AreRootsOf-kept c.args.shelf.now c.loop-at.shelf joins.shelf joins.tables c.args.a.now c.args.table.now c.requires.table
 
 pub join_cell-requires-clause-rows : goal.join_cell-requires-clause-rows
 join_cell-requires-clause-rows c = c.requires.short

@@ -3,10 +3,10 @@ use Rattle.std.proofs.Common.{ℕ, List, sym, ◌∙◌}
 use Rattle.std.proofs.lemmas.Bool.{false≢true}
 use Rattle.gta_theory.specs.Automata.{Automaton}
 use Rattle.gta_subsets.specs.Subsets.{subsets}
+use Rattle.gta_core.proofs.FactoredLemmas.{AreRootsOf-kept}
 use Rattle.gta_core.specs.Auto.{automaton_of}
 use Rattle.gta_project.specs.Building.{AreSpaces}
 use Rattle.gta_project.specs.Growing.{HaveSeen}
-use Rattle.gta_project.proofs.ShelfLemmas.{IsTableOf-kept}
 use Rattle.gta_project.proofs.GrowingLemmas.{Goes-none, subsets-on, subsets-back, auto-on, initial-on, Goes-next, LacksRoom-next, room-less}
 use Rattle.gta_project.proofs.growing.grow.Goals as goal
 
@@ -27,7 +27,7 @@ grow_once-requires-clause-auto c = auto-on c.args.g.now c.args.a.now c.args.trac
 pub grow_once-requires-clause-table : goal.grow_once-requires-clause-table
 grow_once-requires-clause-table c =
     let goes = c.loop-before.invariant.goes in
-    IsTableOf-kept c.args.shelf.now c.loop-before.shelf goes.shelf goes.tables c.args.a.now c.args.table.now c.requires.table
+    AreRootsOf-kept c.args.shelf.now c.loop-before.shelf goes.shelf goes.tables c.args.a.now c.args.table.now c.requires.table
 
 pub grow_once-requires-clause-initials : goal.grow_once-requires-clause-initials
 grow_once-requires-clause-initials c = initial-on c.args.g.now c.args.a.now c.args.track c.args.initials.now c.args.shelf.now c.loop-before.shelf

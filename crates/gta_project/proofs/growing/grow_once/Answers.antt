@@ -2,10 +2,10 @@
 use Rattle.std.proofs.Common.{ℕ, List, ◌∙◌, arith}
 use Rattle.gta_theory.specs.Automata.{Automaton}
 use Rattle.gta_subsets.specs.Subsets.{subsets}
+use Rattle.gta_core.proofs.FactoredLemmas.{AreRootsOf-kept}
 use Rattle.gta_core.specs.Auto.{automaton_of}
 use Rattle.gta_project.specs.Building.{AreSpaces}
 use Rattle.gta_project.specs.Growing.{HasSeen}
-use Rattle.gta_project.proofs.ShelfLemmas.{IsTableOf-kept}
 use Rattle.gta_project.proofs.PartLemmas.{get-at}
 use Rattle.gta_project.proofs.GrowingLemmas.{Goes-none, HaveSeen-set, subsets-on, subsets-back, auto-on, initial-on, Goes-next, LacksRoom-next}
 use Rattle.gta_project.proofs.growing.grow_once.Goals as goal
@@ -27,7 +27,7 @@ grow_space-requires-clause-auto c = auto-on c.args.g.now c.args.a.now c.args.tra
 pub grow_space-requires-clause-table : goal.grow_space-requires-clause-table
 grow_space-requires-clause-table c =
     let goes = c.loop-space.invariant.goes in
-    IsTableOf-kept c.args.shelf.now c.loop-space.shelf goes.shelf goes.tables c.args.a.now c.args.table.now c.requires.table
+    AreRootsOf-kept c.args.shelf.now c.loop-space.shelf goes.shelf goes.tables c.args.a.now c.args.table.now c.requires.table
 
 pub grow_space-requires-clause-initials : goal.grow_space-requires-clause-initials
 grow_space-requires-clause-initials c = initial-on c.args.g.now c.args.a.now c.args.track c.args.initials.now c.args.shelf.now c.loop-space.shelf

@@ -3,10 +3,10 @@ use Rattle.std.proofs.Common.{◌≡◌, ◌*◌, ℕ, List, length, Contains, �
 use Rattle.gta_theory.specs.Guides.{left, right}
 use Rattle.gta_theory.specs.Automata.{Automaton}
 use Rattle.gta_subsets.specs.Subsets.{subsets}
+use Rattle.gta_core.proofs.FactoredLemmas.{AreRootsOf-kept}
 use Rattle.gta_core.specs.Auto.{automaton_of}
 use Rattle.gta_project.specs.Building.{AreSpaces}
 use Rattle.gta_project.specs.Growing.{AreGenerated}
-use Rattle.gta_project.proofs.ShelfLemmas.{IsTableOf-kept}
 use Rattle.gta_project.proofs.GrowingLemmas.{on-ok-always, subsets-on, subsets-back, auto-on, initial-on, Goes-next, LacksRoom-next, LacksRoom-cells}
 use Rattle.gta_project.proofs.growing.grow_space.Goals as goal
 
@@ -35,7 +35,7 @@ join_sets-requires-2-clause-auto c = auto-on c.args.g.now c.args.a.now c.args.tr
 pub join_sets-requires-2-clause-table : goal.join_sets-requires-2-clause-table
 join_sets-requires-2-clause-table c =
     let goes = c.join_sets.ensures.goes in
-    IsTableOf-kept c.args.shelf.now c.join_sets.new.shelf goes.shelf goes.tables c.args.a.now c.args.table.now c.requires.table
+    AreRootsOf-kept c.args.shelf.now c.join_sets.new.shelf goes.shelf goes.tables c.args.a.now c.args.table.now c.requires.table
 
 pub join_sets-requires-2-clause-initials : goal.join_sets-requires-2-clause-initials
 join_sets-requires-2-clause-initials c = initial-on c.args.g.now c.args.a.now c.args.track c.args.initials.now c.args.shelf.now c.join_sets.new.shelf

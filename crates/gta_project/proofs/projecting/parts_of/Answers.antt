@@ -5,10 +5,11 @@ use Rattle.bdd_nodes.proofs.CallerLemmas.{Keeps-refl, Keeps-trans}
 use Rattle.gta_theory.specs.Automata.{Automaton}
 use Rattle.gta_subsets.specs.Subsets.{subsets}
 use Rattle.gta_core.specs.declared.part.Part.{Part}
+use Rattle.gta_core.proofs.FactoredLemmas.{AreRootsOf-kept}
 use Rattle.gta_core.specs.Auto.{automaton_of}
 use Rattle.gta_project.specs.Building.{AreSpaces, Building, ExceedsSteps, IsPartOf, AreParts, ExtendAll}
 use Rattle.gta_project.proofs.ProjectLemmas.{Building-start}
-use Rattle.gta_project.proofs.ShelfLemmas.{subsets-kept, auto-kept, initial-kept, IsTableOf-kept}
+use Rattle.gta_project.proofs.ShelfLemmas.{subsets-kept, auto-kept, initial-kept}
 use Rattle.gta_project.proofs.SameLemmas.{ExtendAll-refl, ExtendAll-trans, both-spaces, AreParts-more, AreParts-none}
 use Rattle.gta_project.proofs.projecting.parts_of.Goals as goal
 
@@ -37,7 +38,7 @@ part_of-requires-clause-table c =
     let Sets = subsets (automaton_of c.args.shelf.now c.args.a.now) c.args.track c.args.initials.now in
     let started = Building-start c.args.g.now Sets c.args.shelf.now c.args.numbers.now.items c.requires.table.is_shelf c.requires.spaces in
     let built = c.loop-space.invariant.building c.args.shelf.now started in
-    IsTableOf-kept c.args.shelf.now c.loop-space.shelf built.shelf built.tables c.args.a.now c.args.table.now c.requires.table
+    AreRootsOf-kept c.args.shelf.now c.loop-space.shelf built.shelf built.tables c.args.a.now c.args.table.now c.requires.table
 
 pub part_of-requires-clause-initials : goal.part_of-requires-clause-initials
 part_of-requires-clause-initials c =

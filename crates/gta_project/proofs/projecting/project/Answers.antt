@@ -5,6 +5,7 @@ use Rattle.bdd_nodes.specs.Shelf.{Contents, tables_added}
 use Rattle.bdd_nodes.specs.Changes.{Keeps, AddsTable, SameTables}
 use Rattle.bdd_nodes.proofs.CallerLemmas.{Keeps-trans, Keeps-same, Keeps-refl}
 use Rattle.gta_theory.specs.Assignments.{PositionSet, IsFiniteSet, replace}
+use Rattle.gta_theory.specs.Guides.{IsGuide}
 use Rattle.gta_theory.specs.Automata.{Accepts}
 use Rattle.gta_theory.proofs.SubsetLemmas.{Accepts-subset}
 use Rattle.gta_core.specs.Auto.{AutoView, states_of, is_accepting, automaton_of, IsAuto, IsWhole}
@@ -162,3 +163,9 @@ returns-in_err-made-clause-same_limit c = ap (λ (shelf : Contents). shelf.limit
 
 pub returns-in_err-initials-clause-kept : goal.returns-in_err-initials-clause-kept
 returns-in_err-initials-clause-kept c = Keeps-refl c.args.shelf.now
+
+pub returns-in_err-roots-clause-guide : goal.returns-in_err-roots-clause-guide
+returns-in_err-roots-clause-guide c = subst IsGuide c.requires.over c.roots.ensures.whole.guide
+
+pub returns-in_err-initials-clause-guide : goal.returns-in_err-initials-clause-guide
+returns-in_err-initials-clause-guide c = subst IsGuide c.requires.over c.roots.ensures.whole.guide

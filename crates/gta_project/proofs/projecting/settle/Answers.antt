@@ -3,10 +3,10 @@ use Rattle.std.proofs.Common.{◌≡◌, ℕ, List, inl, sym, ◌∙◌, subst, 
 use Rattle.std.proofs.lemmas.Bool.{false≢true}
 use Rattle.gta_theory.specs.Automata.{Automaton}
 use Rattle.gta_subsets.specs.Subsets.{subsets}
+use Rattle.gta_core.proofs.FactoredLemmas.{AreRootsOf-kept}
 use Rattle.gta_core.specs.Auto.{automaton_of}
 use Rattle.gta_project.specs.Building.{AreSpaces, AreParts}
 use Rattle.gta_project.specs.Growing.{HaveSeen}
-use Rattle.gta_project.proofs.ShelfLemmas.{IsTableOf-kept}
 use Rattle.gta_project.proofs.FinalLemmas.{same-spaces}
 use Rattle.gta_project.proofs.ProjectLemmas.{Building-start, Leaves-building, Leaves-none}
 use Rattle.gta_project.proofs.GrowingLemmas.{to-now, to-first, auto-now, initial-now, Building-goes, Exceeded-goes, room-most, room-less}
@@ -31,7 +31,7 @@ grow-requires-clause-auto c =
 pub grow-requires-clause-table : goal.grow-requires-clause-table
 grow-requires-clause-table c =
     let building = c.loop-growths.invariant.building in
-    IsTableOf-kept c.args.shelf.now c.loop-growths.shelf building.shelf building.tables c.args.a.now c.args.table.now c.requires.table
+    AreRootsOf-kept c.args.shelf.now c.loop-growths.shelf building.shelf building.tables c.args.a.now c.args.table.now c.requires.table
 
 pub grow-requires-clause-initials : goal.grow-requires-clause-initials
 grow-requires-clause-initials c =
@@ -66,7 +66,7 @@ parts_of-requires-clause-table c =
     c.loop-growths.numbers.items
     c.loop-growths.invariant.building
     c.grow.new.shelf c.grow.new.numbers.items c.grow.ensures.goes.building in
-    IsTableOf-kept c.args.shelf.now c.grow.new.shelf grown.shelf grown.tables c.args.a.now c.args.table.now c.requires.table
+    AreRootsOf-kept c.args.shelf.now c.grow.new.shelf grown.shelf grown.tables c.args.a.now c.args.table.now c.requires.table
 
 pub parts_of-requires-clause-initials : goal.parts_of-requires-clause-initials
 parts_of-requires-clause-initials c =

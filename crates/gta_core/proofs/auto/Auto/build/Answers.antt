@@ -27,7 +27,7 @@ invariant_of-result c =
     IsWhole-given c.args.g.now c.args.shelf.now c.add_table.new.self c.args.spaces c.args.accepting
     (made c.in_ok-table.table c.in_ok-parts.parts c.args.accepting)
     c.parts_of.new.roots c.requires c.in_ok-table.ensures.ok c.in_ok-parts.ensures.many
-    (placed _ _ _ _ _ c.as_slice.ensures c.in_ok-parts.ensures.placed) refl c.children.ensures.guide
+    (placed _ _ _ _ _ c.as_slice.ensures c.in_ok-parts.ensures.placed) refl c.parts_of.ensures.guide
 
 pub returns-clause-auto : goal.returns-clause-auto
 returns-clause-auto c =

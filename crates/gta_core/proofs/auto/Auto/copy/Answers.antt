@@ -12,8 +12,8 @@ use Rattle.gta_core.proofs.auto.Auto.copy.Goals.{In_ok-table}
 
 pub add_table-requires : goal.add_table-requires
 add_table-requires c =
-    subst (λ (rs : List NodeRef). All (IsValid c.args.shelf.now) rs) (sym c.in_ok-roots.ensures)
-    (All-roots c.args.shelf.now c.count.ensures.shelf (number_of c.self.inside.table))
+    subst (λ (rs : List NodeRef). All (IsValid c.args.shelf.now) rs) (sym c.in_ok-roots.ensures.roots)
+    (All-roots c.args.shelf.now c.roots_in.ensures.shelf (number_of c.self.inside.table))
 
 parts : (c : In_ok-table) → c.in_ok-parts.parts ≡ c.args.self.now.parts
 parts c = c.in_ok-parts.ensures ∙ c.as_slice.ensures ∙ ap (λ (a : AutoView). a.parts) c.self.view_is
@@ -28,7 +28,7 @@ adds : (c : In_ok-table) → AddsTable c.args.shelf.now c.add_table.new.self (nu
     (unwrap_or (roots_of c.args.shelf.now c.args.self.now.table) [])
 adds c =
     subst (λ (rs : List NodeRef). AddsTable c.args.shelf.now c.add_table.new.self (number_of c.in_ok-table.table) rs)
-    (c.in_ok-roots.ensures ∙ ap (λ (a : AutoView). unwrap_or (roots_of c.args.shelf.now a.table) []) c.self.view_is) c.in_ok-table.ensures.ok
+    (c.in_ok-roots.ensures.roots ∙ ap (λ (a : AutoView). unwrap_or (roots_of c.args.shelf.now a.table) []) c.self.view_is) c.in_ok-table.ensures.ok
 
 copy-is : (c : In_ok-table) → copy c c.in_ok-parts.parts c.in_ok-accepting.accepting ≡ copy c c.args.self.now.parts c.args.self.now.accepting
 copy-is c = λ i. copy c (parts c i) (accepting c i)

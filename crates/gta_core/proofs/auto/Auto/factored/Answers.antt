@@ -25,7 +25,7 @@ returns-clause-roots c = λ l r.
     let cells : c.in_ok-from_slice-3.field-0 ≡ part.cells = c.in_ok-from_slice-3.ensures ∙ c.as_slice-cells.ensures in
     let below : (k : ℕ) → slice_index part.cells k < c.above.result = λ k. subst (λ (xs : List ℕ). slice_index xs k < c.above.result) c.as_slice-cells.ensures
     (c.above.ensures k) in
-    let are : c.in_ok-roots_from.field-0 ≡ take c.above.result (drop part.first (unwrap_or (roots_of shelf a.table) [])) = c.in_ok-roots_from.ensures.value ∙
+    let are : c.in_ok-roots.roots ≡ take c.above.result (drop part.first (unwrap_or (roots_of shelf a.table) [])) = c.in_ok-roots.ensures.value ∙
     ap (λ (v : AutoView). take c.above.result (drop part.first (unwrap_or (roots_of shelf v.table) []))) c.self.view_is in
     factored_root-copied shelf a c.args.space part at c.in_ok-from_slice.field-0 c.in_ok-from_slice-2.field-0 c.in_ok-from_slice-3.field-0 part.width
-    c.above.result c.in_ok-roots_from.field-0 rows columns cells refl below are l r
+    c.above.result c.in_ok-roots.roots rows columns cells refl below are l r
