@@ -32,7 +32,6 @@ STANDING_CALLS = {
     "gta_keep": 5,
     "gta_merge": 1,
     "gta_minimise": 4,
-    "gta_product": 11,
     "gta_project": 10,
     "gta_subsets": 2,
     "kernel_gallery": 3,

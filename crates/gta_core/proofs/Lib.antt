@@ -6,3 +6,5 @@ pub mod SizeLemmas
 pub mod FactoredLemmas
 pub mod FlipLemmas
 pub mod KeptLemmas
+pub mod CellsLemmas
+pub mod SpacesLemmas

@@ -3,6 +3,7 @@
 
 ghost use Rattle.std.specs.Prelude.{◌≡◌, ◌<◌, ◌+◌, ℕ, List, [], ◌∷◌, Err, IfOk, OnErr};
 ghost use Rattle.bdd_nodes.specs.Shelf.{limit_of};
+ghost use Rattle.gta_theory.specs.Guides.{IsGuide};
 ghost use Rattle.gta_core.specs.Auto.{AutoView, automaton_of, states_of};
 ghost use Rattle.gta_atom.specs.Atom.{IsAtom};
 ghost use Rattle.gta_product.specs.Product.{IsProductOf};
@@ -51,8 +52,6 @@ pub fn conjoin(
         HasMinimalSize g.now f n → HasMinimalSize g.now h m → HasProductSize g.now f h p → HasMinimalSize g.now (And f h) r →
         limit_of shelf.old < s + (n + m + p + r) }
 {
-    // Only for its clause `guide`.
-    let _ = g.spaces();
     let pairs = pair_up(alloc, g, a, b, kept, shelf)?;
     minimal_of(alloc, g, pairs, kept, shelf)
 }
@@ -82,8 +81,6 @@ pub fn quantify(
         HasMinimalSize g.now f n → HasSubsetSize g.now t f p → HasMinimalSize g.now (Ex2 t f) r →
         limit_of shelf.old < s + (n + p + r) }
 {
-    // Only for its clause `guide`.
-    let _ = g.spaces();
     let sets = drop_track(alloc, g, a, t, kept, shelf)?;
     minimal_of(alloc, g, sets, kept, shelf)
 }
@@ -155,6 +152,7 @@ fn pair_up(
         (automaton_of shelf.new c) (states_of c)) }
     ensures err { OnErr result (Passes g.now shelf.old shelf.new (a ∷ b ∷ []) [] kept.old kept.new) }
     ensures limit { result ≡ Err Stop.Limit → PairsLimit g.now shelf.old a b kept.old }
+    ensures guide { IsGuide g.now }
 {
     let pairs = build_product(alloc, g, &a, &b, kept, shelf);
     release(a, shelf);
@@ -176,6 +174,7 @@ fn drop_track(
     ensures subset { IfOk result (λ c. IsSubsetOf g.now (automaton_of shelf.old a) t.0 (automaton_of shelf.new c) (states_of c)) }
     ensures err { OnErr result (Passes g.now shelf.old shelf.new (a ∷ []) [] kept.old kept.new) }
     ensures limit { result ≡ Err Stop.Limit → SetsLimit g.now shelf.old a t kept.old }
+    ensures guide { IsGuide g.now }
 {
     let sets = build_projection(alloc, g, &a, t, kept, shelf);
     release(a, shelf);
@@ -234,6 +233,7 @@ fn build_product(
         (automaton_of shelf.new c) (states_of c)) }
     ensures err { OnErr result (Passes g.now shelf.old shelf.new [] [] kept.old kept.new) }
     ensures limit { result ≡ Err Stop.Limit → PairsLimit g.now shelf.old a.now b.now kept.old }
+    ensures guide { IsGuide g.now }
 {
     // Only for its clause `guide`.
     let _ = g.spaces();
@@ -260,6 +260,7 @@ fn build_projection(
     ensures subset { IfOk result (λ c. IsSubsetOf g.now (automaton_of shelf.old a.now) t.0 (automaton_of shelf.new c) (states_of c)) }
     ensures err { OnErr result (Passes g.now shelf.old shelf.new [] [] kept.old kept.new) }
     ensures limit { result ≡ Err Stop.Limit → SetsLimit g.now shelf.old a.now t kept.old }
+    ensures guide { IsGuide g.now }
 {
     // Only for its clause `guide`.
     let _ = g.spaces();

@@ -80,6 +80,7 @@ fn quotient_spaces(
     classes: &[SpaceClasses],
     shelf: &mut Shelf,
 ) -> Result<QuotientTable, Stop>
+    requires shelf { IsShelf shelf.old }
     requires auto { IsAuto g.now shelf.old a.now }
     requires form { IsForm form.now }
     requires same { IsFormOf g.now shelf.old a.now form.now }
@@ -88,8 +89,6 @@ fn quotient_spaces(
     ensures adds { Adds (IsUnderClasses form.now classes.now) shelf.old shelf.new }
     ensures stuck { result ≡ Err Stop.Limit → IsStuck (IsUnderClasses form.now classes.now) shelf.new }
 {
-    // Only for its clause `shelf`.
-    let _ = shelf.count();
     let mut parts = Items::new(alloc);
     let mut roots = RefList::new(alloc);
     for space in 0..g.spaces() {

@@ -67,14 +67,13 @@ pub(crate) fn rename_roots(
     roots: &[NodeRef],
     classes: &[u32],
 ) -> Result<RefList, Stop>
+    requires shelf { IsShelf shelf.old }
     requires valid { All (IsValid shelf.old) roots.now }
     requires classes { All (λ class. class < 2 ^ 31) classes.now }
     ensures renamed { IfOk result (AreRenamed shelf.old shelf.new classes.now roots.now) }
     ensures adds { Adds (IsUnderRenamed shelf.old classes.now roots.now) shelf.old shelf.new }
     ensures stuck { result ≡ Err Stop.Limit → IsStuck (IsUnderRenamed shelf.old classes.now roots.now) shelf.new }
 {
-    // Only for its clause `shelf`.
-    let _ = shelf.count();
     let listing = list_nodes(alloc, shelf, roots)?;
     let refs = make_nodes(alloc, shelf, listing.nodes.as_slice(), classes)?;
     let renamed = references(alloc, &refs, classes, listing.roots.as_slice())?;

@@ -1,7 +1,7 @@
 //! The roots of the automaton of classes.
 
 ghost use Rattle.std.specs.Prelude.{◌≡◌, ◌<◌, ℕ, Err, All, length, slice_index, IfOk};
-ghost use Rattle.bdd_nodes.specs.Shelf.{IsValid};
+ghost use Rattle.bdd_nodes.specs.Shelf.{IsShelf, IsValid};
 ghost use Rattle.gta_theory.specs.Guides.{IsSpace, left, right};
 ghost use Rattle.gta_core.specs.Auto.{states_of, guide_of, IsAuto};
 ghost use Rattle.gta_room.specs.Progress.{Adds, IsStuck};
@@ -68,6 +68,7 @@ pub(crate) fn quotient_space(
     classes: &[SpaceClasses],
     shelf: &mut Shelf,
 ) -> Result<QuotientSpace, Stop>
+    requires shelf { IsShelf shelf.old }
     requires auto { IsAuto (forms.guide_of form.now) shelf.old a.now }
     requires form { IsForm form.now }
     requires same { IsFormOf (forms.guide_of form.now) shelf.old a.now form.now }
@@ -77,8 +78,6 @@ pub(crate) fn quotient_space(
     ensures adds { Adds (IsUnderClasses form.now classes.now) shelf.old shelf.new }
     ensures stuck { result ≡ Err Stop.Limit → IsStuck (IsUnderClasses form.now classes.now) shelf.new }
 {
-    // Only for its clause `shelf`.
-    let _ = shelf.count();
     let shared = shared_part(alloc, form, space, classes)?;
     let pairs = roots_of_pairs(
         alloc,

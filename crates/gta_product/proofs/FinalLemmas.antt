@@ -26,7 +26,9 @@ use Rattle.gta_product.specs.Numbers.{number_in, Extends}
 use Rattle.gta_product.specs.Filling.{IsCell}
 use Rattle.gta_product.specs.Building.{AreSpaces, IsPartOf, AreParts, ExtendAll}
 use Rattle.gta_product.proofs.NumbersLemmas.{number_in-get}
-use Rattle.gta_product.proofs.CellsLemmas.{get-index, has-root, is-place}
+use Rattle.gta_core.specs.Placing.{HasPlace}
+use Rattle.gta_core.proofs.CellsLemmas.{get-index}
+use Rattle.gta_product.proofs.CellsLemmas.{has-root, is-place}
 
 -- lists with the same elements are the same
 ext : {X : Type 0} (xs ys : List X) → ((i : ℕ) → slice_get xs i ≡ slice_get ys i) → xs ≡ ys
@@ -324,19 +326,23 @@ module _ (g : Spaces) (guide : IsGuide g) (first now : Contents) (a b : AutoView
           ap (λ (o : Option NodeRef). is_some o) step.at,
     )
 
+    -- a place of the part of a space is used
+    used-in : (space : ℕ) (part : Part) → slice_get parts space ≡ Some part → (place : ℕ) → HasPlace part place → IsUsed made place
+    used-in space part at place has = record {
+      space = space;
+      left = has.left;
+      right = has.right;
+      there = ap (λ (o : Option Part). option_and_then (λ (part : Part). place_in part has.left has.right) o) at ∙ has.there;
+    }
+
     used-made : (place : ℕ) → IsSome (root_of after table place) → IsUsed made place
     used-made place some =
         let at_place = subst (λ (o : Option (List NodeRef)). IsSome (option_and_then (λ (rs : List NodeRef). slice_get rs place) o)) adds.roots some in
         let u = built.used place (within-some roots place at_place) in
         let of = built.each u.space u.part u.at in
-        let is = is-place g first a b u.space of.lefts of.rights of.pairs of.first of.second of.in_first of.in_second now roots u.part of.built
-        place u.from u.to in
-        record {
-          space = u.space;
-          left = is.left;
-          right = is.right;
-          there = ap (λ (o : Option Part). option_and_then (λ (part : Part). place_in part is.left is.right) o) u.at ∙ is.there;
-        }
+        used-in u.space u.part u.at place
+        (is-place g first a b u.space of.lefts of.rights of.pairs of.first of.second of.in_first of.in_second now roots u.part of.built
+        place u.from u.to)
 
     pub IsAuto-made : IsAuto g after made
     IsAuto-made = record {

@@ -23,7 +23,7 @@ use Rattle.gta_product.specs.Filling.{Joins, ExceedsCells}
 use Rattle.gta_product.specs.Building.{AreSpaces, CompleteAll, ExceedsSteps, HasManyCells, Building, Exceeded, ExtendAll}
 use Rattle.gta_product.specs.Growing.{AreGenerated, HasSeen, HaveSeen, Goes, LacksRoom, room_left}
 use Rattle.gta_product.proofs.BuildingLemmas.{SetsSpace, ExtendAll-set, AreSpaces-set, Building-set, ExceedsSteps-set}
-use Rattle.gta_product.proofs.CellsLemmas.{get-index}
+use Rattle.gta_core.proofs.CellsLemmas.{get-index}
 use Rattle.gta_product.proofs.PartLemmas.{SetsSpace-at, get-set, get-set_other, length-set_at, parts-length}
 use Rattle.gta_product.proofs.KeyedLemmas.{IsKeyed-none, ones-differ}
 use Rattle.gta_product.proofs.NextLemmas.{alone-is}
@@ -31,11 +31,13 @@ use Rattle.gta_product.proofs.SameLemmas.{ExtendAll-refl, ExtendAll-trans}
 use Rattle.gta_product.proofs.ShelfLemmas.{both-kept, auto-kept}
 
 module _ (g : Spaces) (AB : Automaton (ℕ × ℕ)) where
-  pub Goes-none : (shelf : Contents) (spaces : List (List (ℕ × ℕ))) → Goes g AB shelf shelf spaces spaces
-  Goes-none shelf spaces = record {
+  pub Goes-none : (shelf : Contents) (spaces : List (List (ℕ × ℕ))) → IsShelf shelf → Goes g AB shelf shelf spaces spaces
+  Goes-none shelf spaces is_shelf = record {
     extends = ExtendAll-refl spaces;
     keeps = Keeps-refl shelf;
+    same_limit = refl;
     tables = refl;
+    shelf = is_shelf;
     building = λ start building. building;
   }
 
@@ -44,7 +46,9 @@ module _ (g : Spaces) (AB : Automaton (ℕ × ℕ)) where
   Goes-trans old middle new before between after first second = record {
     extends = ExtendAll-trans before between after first.extends second.extends;
     keeps = Keeps-trans old middle new first.keeps second.keeps;
+    same_limit = second.same_limit ∙ first.same_limit;
     tables = second.tables ∙ first.tables;
+    shelf = second.shelf;
     building = λ start building. second.building start (first.building start building);
   }
 
@@ -81,7 +85,9 @@ module _ (g : Spaces) (AB : Automaton (ℕ × ℕ)) (s : ℕ) (inside : IsSpace 
   Goes-fill = record {
     extends = ExtendAll-set spaces (slice_set spaces s after) s before after sets joins.extends;
     keeps = joins.keeps;
+    same_limit = joins.same_limit;
     tables = joins.tables;
+    shelf = joins.shelf;
     building = Building-set g AB s inside spaces (slice_set spaces s after) before after are sets rows columns row-generated column-generated
         shelf now joins numbers;
   }

@@ -5,7 +5,7 @@ use Rattle.std.specs.List.{list_any}
 use Rattle.std.proofs.lemmas.Bool.{cases_Bool, eqb-true, eq-eqb, false≢true}
 use Rattle.bdd_walk.specs.Laws.{and-left, and-right, and-both}
 use Rattle.bdd_walk.specs.Answers.{KeepsAnswers, AnswersOnly, Completes}
-use Rattle.gta_product.specs.Numbers.{is_pair, number_in, numbered, AreNumbers, Extends, Grows, stays, comes}
+use Rattle.gta_product.specs.Numbers.{is_pair, number_in, numbered, AreNumbers, Extends, Grows, stays, comes, MayNumber}
 
 pub is_pair-true : (a b : ℕ × ℕ) → is_pair a b ≡ true → a ≡ b
 is_pair-true a b e =
@@ -191,3 +191,7 @@ two-of [] is = absurd (omega arith)
 two-of (x ∷ []) is = absurd (omega arith)
 two-of (x ∷ y ∷ []) is = refl
 two-of (x ∷ y ∷ z ∷ xs) is = absurd (omega arith)
+
+-- what may be numbered still has numbers
+pub numbers-still : (old new : List (ℕ × ℕ)) → AreNumbers old → ((states : List ℕ) → MayNumber old states → MayNumber new states) → AreNumbers new
+numbers-still old new numbers still = (still (0 ∷ 0 ∷ []) (record { numbers = numbers; two = refl })).numbers

@@ -14,7 +14,7 @@ use Rattle.gta_core.proofs.AutoLemmas.{past-none}
 use Rattle.gta_product.specs.Numbers.{AreNumbers, Extends}
 use Rattle.gta_product.specs.Building.{AreSpaces, IsBuilt, IsPartOf, AreParts, ExtendAll}
 use Rattle.gta_product.proofs.NumbersLemmas.{Extends-refl, Extends-trans, get-snoc, get-kept, get-last}
-use Rattle.gta_product.proofs.CellsLemmas.{cell-inside, get-index}
+use Rattle.gta_core.proofs.CellsLemmas.{cell-inside, get-index}
 use Rattle.gta_product.proofs.JoinsLemmas.{IsCell-kept}
 
 ext : {X : Type 0} (xs ys : List X) → ((i : ℕ) → slice_get xs i ≡ slice_get ys i) → xs ≡ ys

@@ -3,7 +3,7 @@ use Rattle.std.proofs.Common.{◌≡◌, ℕ, ◌<◌, List, [], length, get_or,
 use Rattle.std.specs.Prelude.{IsSome, unwrap_or, option_and_then}
 use Rattle.bdd_nodes.specs.declared.node_ref.NodeRef.{NodeRef}
 use Rattle.bdd_nodes.specs.Roots.{Registered, roots_under}
-use Rattle.bdd_nodes.specs.Shelf.{Contents, IsShelf, IsValid, root_of}
+use Rattle.bdd_nodes.specs.Shelf.{Contents, IsShelf, IsValid, limit_of, root_of}
 use Rattle.bdd_nodes.specs.Changes.{SameTables}
 use Rattle.gta_core.specs.declared.part.Part.{Part}
 use Rattle.gta_core.specs.Auto.{AutoView, place_of, table_of, root_among, root_at}
@@ -14,9 +14,11 @@ use Rattle.gta_product.proofs.ShelfLemmas.{within-some, some-first}
 use Rattle.gta_product.proofs.PartLemmas.{get-at}
 
 -- joins leave the tables as they are
-pub AreTables-kept : (old new : Contents) → SameTables old new → (a b : AutoView) (tables : Tables) →
+pub AreTables-kept : (old new : Contents) → IsShelf new → limit_of new ≡ limit_of old → SameTables old new → (a b : AutoView) (tables : Tables) →
     AreTables old a b tables → AreTables new a b tables
-AreTables-kept old new same a b tables are = record {
+AreTables-kept old new is_shelf same_limit same a b tables are = record {
+  is_shelf = is_shelf;
+  limit = are.limit ∙ sym same_limit;
   first = are.first ∙ sym (table-kept a);
   second = are.second ∙ sym (table-kept b);
 }

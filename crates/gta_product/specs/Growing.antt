@@ -1,6 +1,6 @@
 -- How the pairs of the spaces grow while a product is built, and what each space was joined for.
 use Rattle.std.specs.Prelude.{◌≡◌, ℕ, ◌+◌, ◌-◌, ◌^◌, ◌⊎◌, List, [], ◌∷◌, length, Some, Contains, slice_get}
-use Rattle.bdd_nodes.specs.Shelf.{Contents}
+use Rattle.bdd_nodes.specs.Shelf.{Contents, IsShelf, limit_of}
 use Rattle.bdd_nodes.specs.Changes.{Keeps, SameTables}
 use Rattle.gta_theory.specs.Guides.{Spaces, left, right}
 use Rattle.gta_theory.specs.Automata.{Automaton}
@@ -44,7 +44,9 @@ module _ (g : Spaces) (AB : Automaton (ℕ × ℕ)) where
   pub record Goes (old new : Contents) (before after : List (List (ℕ × ℕ))) : Type 0 where
     pub extends : ExtendAll before after
     pub keeps : Keeps old new
+    pub same_limit : limit_of new ≡ limit_of old
     pub tables : SameTables old new
+    pub shelf : IsShelf new
     pub building : (start : Contents) → Building g AB start old before → Building g AB start new after
 
   -- there is less room than the product that was being built has missing functions, or some space has many cells

@@ -32,6 +32,7 @@ pub data Grows (old new : List (ℕ × ℕ)) (pair : ℕ × ℕ) : Type 0 where
   stays : new ≡ old → Grows old new pair
   comes : number_in old pair ≡ None → new ≡ old ++ pair ∷ [] → Grows old new pair
 
--- the pairs that a list of two states may be asked for
-pub record IsTwo (states : List ℕ) : Type 0 where
+-- what may be numbered: two states, where the pairs so far are numbered
+pub record MayNumber (pairs : List (ℕ × ℕ)) (states : List ℕ) : Type 0 where
+  pub numbers : AreNumbers pairs
   pub two : length states ≡ 2

@@ -34,6 +34,7 @@ pub(crate) fn join_cell(
     requires first { IsSome (root_at shelf.old a.now space left.0 right.0) }
     requires second { IsSome (root_at shelf.old b.now space left.1 right.1) }
     requires tables { AreTables shelf.old a.now b.now tables.now }
+    requires numbers { AreNumbers numbers.old }
     requires fits { Fits joiner.old None shelf.old (numbered numbers.old) }
     ensures joins { Joins (pairs (automaton_of shelf.old a.now) (automaton_of shelf.old b.now)) space (left ∷ []) (right ∷ [])
         shelf.old shelf.new numbers.old numbers.new }
@@ -43,13 +44,9 @@ pub(crate) fn join_cell(
     ensures fits { OnOk result (Fits joiner.new None shelf.new (numbered numbers.new)) }
     ensures numbers { AreNumbers numbers.new }
 {
-    // Only for their clauses `numbers`.
-    let _ = numbers.len();
     let first = root_in(a, tables.first.as_slice(), shelf, space, left.0, right.0);
     let second = root_in(b, tables.second.as_slice(), shelf, space, left.1, right.1);
-    let joined = joiner.join(alloc, shelf, &[first, second], None, numbers);
-    let _ = numbers.len();
-    let made = joined?;
+    let made = joiner.join(alloc, shelf, &[first, second], None, numbers)?;
     Ok(made)
 }
 
@@ -72,6 +69,7 @@ fn fill_row(
     requires second { (r : ℕ × ℕ) → Contains columns.now r → IsSome (root_at shelf.old b.now space row.1 r.1) }
     requires tables { AreTables shelf.old a.now b.now tables.now }
     requires valid { All (IsValid shelf.old) roots.old }
+    requires numbers { AreNumbers numbers.old }
     requires fits { Fits joiner.old None shelf.old (numbered numbers.old) }
     ensures joins { Joins (pairs (automaton_of shelf.old a.now) (automaton_of shelf.old b.now)) space (row ∷ []) columns.now
         shelf.old shelf.new numbers.old numbers.new }
@@ -83,8 +81,6 @@ fn fill_row(
     ensures fits { OnOk result (Fits joiner.new None shelf.new (numbered numbers.new)) }
     ensures numbers { AreNumbers numbers.new }
 {
-    // Only for their clauses `shelf` and `numbers`.
-    let _ = (shelf.count(), numbers.len());
     for column in columns {
         let root = join_cell(
             alloc, a, b, tables, shelf, space, row, *column, joiner, numbers,
@@ -113,6 +109,7 @@ pub(crate) fn fill(
     requires second { (l r : ℕ × ℕ) → Contains rows.now l → Contains columns.now r → IsSome (root_at shelf.old b.now space l.1 r.1) }
     requires tables { AreTables shelf.old a.now b.now tables.now }
     requires valid { All (IsValid shelf.old) roots.old }
+    requires numbers { AreNumbers numbers.old }
     requires fits { Fits joiner.old None shelf.old (numbered numbers.old) }
     ensures joins { Joins (pairs (automaton_of shelf.old a.now) (automaton_of shelf.old b.now)) space rows.now columns.now
         shelf.old shelf.new numbers.old numbers.new }
@@ -124,8 +121,6 @@ pub(crate) fn fill(
     ensures fits { OnOk result (Fits joiner.new None shelf.new (numbered numbers.new)) }
     ensures numbers { AreNumbers numbers.new }
 {
-    // Only for their clauses `shelf` and `numbers`.
-    let _ = (shelf.count(), numbers.len());
     for row in rows {
         fill_row(
             alloc, a, b, tables, shelf, space, *row, columns, joiner, numbers, roots,

@@ -110,8 +110,6 @@ pub(crate) fn grow(
     ensures seen { OnOk result (HaveSeen g.now (pairs (automaton_of shelf.old a.now) (automaton_of shelf.old b.now)) a.now b.now growths.new.items) }
     ensures fits { OnOk result (FitAll shelf.new joiners.new.items numbers.new.items) }
 {
-    // Only for its clause `shelf`.
-    let _ = shelf.count();
     loop {
         let before = counts(alloc, numbers)?;
         grow_once(alloc, g, a, b, tables, shelf, joiners, numbers, growths)?;
@@ -149,8 +147,6 @@ fn grow_once(
     ensures seen { OnOk result (HaveSeen g.now (pairs (automaton_of shelf.old a.now) (automaton_of shelf.old b.now)) a.now b.now growths.new.items) }
     ensures fits { OnOk result (FitAll shelf.new joiners.new.items numbers.new.items) }
 {
-    // Only for its clause `shelf`.
-    let _ = shelf.count();
     for space in 0..g.spaces() {
         let growth = &mut growths[space as usize];
         grow_space(
@@ -190,14 +186,12 @@ fn grow_space(
     ensures seen { OnOk result (HasSeen g.now (pairs (automaton_of shelf.old a.now) (automaton_of shelf.old b.now)) a.now b.now space growth.new) }
     ensures fits { OnOk result (FitAll shelf.new joiners.new.items numbers.new.items) }
 {
-    // Only for its clause `shelf`.
-    let _ = shelf.count();
     let (rows, columns) = (growth.rows.ones.len(), growth.columns.ones.len());
     look_at(g, a, b, shelf, space, numbers, growth)?;
     if exceeds(
         growth.rows.ones.len(),
         growth.columns.ones.len(),
-        shelf.limit(),
+        tables.limit,
     ) {
         return Err(Stop::Limit);
     }
@@ -262,7 +256,7 @@ fn look_at(
 #[allow(clippy::too_many_arguments)]
 fn join_pairs(
     alloc: Global,
-    g: &Guide,
+    _g: &Guide,
     a: &Auto,
     b: &Auto,
     tables: &Tables,
@@ -273,23 +267,21 @@ fn join_pairs(
     joiners: &mut Vec<Joiner>,
     numbers: &mut Vec<Numbering>,
 ) -> Result<(), Stop>
-    requires first { IsAuto g.now shelf.old a.now }
-    requires second { IsAuto g.now shelf.old b.now }
+    requires first { IsAuto _g.now shelf.old a.now }
+    requires second { IsAuto _g.now shelf.old b.now }
     requires tables { AreTables shelf.old a.now b.now tables.now }
-    requires spaces { AreSpaces g.now (pairs (automaton_of shelf.old a.now) (automaton_of shelf.old b.now)) numbers.old.items }
-    requires inside { space < length g.now }
-    requires rows { AreGenerated g.now (pairs (automaton_of shelf.old a.now) (automaton_of shelf.old b.now)) (left g.now space) rows.now }
-    requires columns { AreGenerated g.now (pairs (automaton_of shelf.old a.now) (automaton_of shelf.old b.now)) (right g.now space) columns.now }
+    requires spaces { AreSpaces _g.now (pairs (automaton_of shelf.old a.now) (automaton_of shelf.old b.now)) numbers.old.items }
+    requires inside { space < length _g.now }
+    requires rows { AreGenerated _g.now (pairs (automaton_of shelf.old a.now) (automaton_of shelf.old b.now)) (left _g.now space) rows.now }
+    requires columns { AreGenerated _g.now (pairs (automaton_of shelf.old a.now) (automaton_of shelf.old b.now)) (right _g.now space) columns.now }
     requires fits { FitAll shelf.old joiners.old.items numbers.old.items }
-    ensures goes { Goes g.now (pairs (automaton_of shelf.old a.now) (automaton_of shelf.old b.now))
+    ensures goes { Goes _g.now (pairs (automaton_of shelf.old a.now) (automaton_of shelf.old b.now))
         shelf.old shelf.new numbers.old.items numbers.new.items }
-    ensures limit { result ≡ Err Stop.Limit → LacksRoom g.now (pairs (automaton_of shelf.old a.now) (automaton_of shelf.old b.now))
+    ensures limit { result ≡ Err Stop.Limit → LacksRoom _g.now (pairs (automaton_of shelf.old a.now) (automaton_of shelf.old b.now))
         shelf.old numbers.old.items numbers.new.items }
-    ensures spaces { AreSpaces g.now (pairs (automaton_of shelf.old a.now) (automaton_of shelf.old b.now)) numbers.new.items }
+    ensures spaces { AreSpaces _g.now (pairs (automaton_of shelf.old a.now) (automaton_of shelf.old b.now)) numbers.new.items }
     ensures fits { OnOk result (FitAll shelf.new joiners.new.items numbers.new.items) }
 {
-    // Only for its clause `guide`.
-    let _ = g.spaces();
     let at = space as usize;
     let mut roots = RefList::new(alloc);
     fill(

@@ -69,11 +69,11 @@ impl Numbering {
 }
 
 impl LeafRule for Numbering {
-    ghost use Rattle.gta_product.specs.Numbers.{numbered, IsTwo};
+    ghost use Rattle.gta_product.specs.Numbers.{numbered, MayNumber};
 
     ghost answers = { λ pairs. numbered pairs };
 
-    ghost may_ask = { λ pairs states. IsTwo states };
+    ghost may_ask = { MayNumber };
 
     fn leaf(&mut self, states: &StateList) -> Result<u32, AllocError> {
         let states = states.as_slice();

@@ -64,8 +64,6 @@ pub fn product(
     ensures same_limit { limit_of shelf.new ≡ limit_of shelf.old }
     ensures shelf { IsShelf shelf.new }
 {
-    // Only for their clauses `shelf` and `guide`.
-    let _ = (shelf.count(), g.spaces());
     let tables = Tables::read(alloc, a, b, shelf)?;
     let settled = settle(alloc, g, a, b, &tables, shelf)?;
     let Settled {
@@ -102,9 +100,8 @@ fn settle(
     ensures limit { result ≡ Err Stop.Limit →
         Exceeded g.now (pairs (automaton_of shelf.old a.now) (automaton_of shelf.old b.now)) shelf.old }
     ensures settled { IfOk result (IsSettled g.now (pairs (automaton_of shelf.old a.now) (automaton_of shelf.old b.now)) a.now b.now shelf.old shelf.new) }
+    ensures guide { IsGuide g.now }
 {
-    // Only for its clause `shelf`.
-    let _ = shelf.count();
     let mut numbers = start(alloc, g, a, b)?;
     let mut joiners = joiners(alloc, g)?;
     let mut growths = growths(alloc, g)?;
@@ -146,8 +143,9 @@ fn settle(
 
 /// The initial pair of each space.
 fn start(alloc: Global, g: &Guide, a: &Auto, b: &Auto) -> Result<Vec<Numbering>, NoMemory>
-    ensures { IfOk result (λ spaces. (shelf : Contents) →
+    ensures spaces { IfOk result (λ spaces. (shelf : Contents) →
         AreSpaces g.now (pairs (automaton_of shelf a.now) (automaton_of shelf b.now)) spaces.items) }
+    ensures guide { IsGuide g.now }
 {
     let mut spaces = Vec::new(alloc);
     for space in 0..g.spaces() {
@@ -247,8 +245,6 @@ fn parts_of(
         AreParts g.now (pairs (automaton_of shelf.old a.now) (automaton_of shelf.old b.now)) a.now b.now
         numbers.old.items numbers.old.items shelf.new roots.new parts) }
 {
-    // Only for its clause `shelf`.
-    let _ = shelf.count();
     let mut parts = Items::new(alloc);
     for space in 0..g.spaces() {
         let part = part_of(

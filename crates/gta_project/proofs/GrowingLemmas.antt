@@ -24,7 +24,7 @@ use Rattle.gta_project.specs.Building.{AreSpaces, CompleteAll, ExceedsSteps, Has
 use Rattle.gta_subsets.specs.Shorts.{rows_in, columns_in}
 use Rattle.gta_project.specs.Growing.{AreGenerated, HasSeen, HaveSeen, Goes, LacksRoom, room_left}
 use Rattle.gta_project.proofs.BuildingLemmas.{ChangesSpace, ExtendAll-set, AreSpaces-set, Building-set, ExceedsSteps-set}
-use Rattle.gta_project.proofs.CellsLemmas.{get-index}
+use Rattle.gta_core.proofs.CellsLemmas.{get-index}
 use Rattle.gta_project.proofs.PartLemmas.{ChangesSpace-at, get-set, get-set_other, length-set_at}
 use Rattle.gta_project.proofs.KeyedLemmas.{IsKeyed-none, ones-differ}
 use Rattle.gta_project.proofs.NextLemmas.{alone-is}
@@ -32,11 +32,12 @@ use Rattle.gta_project.proofs.SameLemmas.{ExtendAll-refl, ExtendAll-trans}
 use Rattle.gta_project.proofs.ShelfLemmas.{subsets-kept, auto-kept, initial-kept}
 
 module _ (g : Spaces) (Sets : Automaton (List ℕ)) where
-  pub Goes-none : (shelf : Contents) (spaces : List (List (List ℕ))) → Goes g Sets shelf shelf spaces spaces
-  Goes-none shelf spaces = record {
+  pub Goes-none : (shelf : Contents) (spaces : List (List (List ℕ))) → IsShelf shelf → Goes g Sets shelf shelf spaces spaces
+  Goes-none shelf spaces is_shelf = record {
     extends = ExtendAll-refl spaces;
     keeps = Keeps-refl shelf;
     tables = refl;
+    shelf = is_shelf;
     building = λ start building. building;
   }
 
@@ -46,6 +47,7 @@ module _ (g : Spaces) (Sets : Automaton (List ℕ)) where
     extends = ExtendAll-trans before between after first.extends second.extends;
     keeps = Keeps-trans old middle new first.keeps second.keeps;
     tables = second.tables ∙ first.tables;
+    shelf = second.shelf;
     building = λ start building. second.building start (first.building start building);
   }
 
@@ -83,6 +85,7 @@ module _ (g : Spaces) (Sets : Automaton (List ℕ)) (s : ℕ) (inside : IsSpace 
     extends = ExtendAll-set spaces (slice_set spaces s after) s before after change joins.extends;
     keeps = joins.keeps;
     tables = joins.tables;
+    shelf = joins.shelf;
     building = Building-set g Sets s inside spaces (slice_set spaces s after) before after are change rows columns row-generated column-generated
         shelf now joins numbers;
   }

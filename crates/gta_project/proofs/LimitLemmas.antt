@@ -1,13 +1,11 @@
 -- What has no room is no more than the Size of the projection.
-use Rattle.std.proofs.Common.{◌≡◌, ◌≢◌, ℕ, zero, suc, ◌+◌, ◌-◌, ◌*◌, ◌<◌, ◌≤◌, Bool, List, [], ◌++◌, map, length, length-append, Option, Contains, ◌↔◌, refl}
-use Rattle.std.proofs.Common.{Some, slice_get, slice_index_or, sym, ◌∙◌, ap, subst, inl, inr, arith}
+use Rattle.std.proofs.Common.{◌≡◌, ◌≢◌, ℕ, ◌+◌, ◌-◌, ◌*◌, ◌<◌, ◌≤◌, Bool, List, [], length, Option, Contains, ◌↔◌, refl}
+use Rattle.std.proofs.Common.{Some, slice_get, slice_index_or, sym, ◌∙◌, ap, subst, arith}
 use Rattle.std.specs.Prelude.{IsTrue, unwrap_or}
 use Rattle.std.specs.List.{All, AllPairs}
 use Rattle.std.proofs.Math.Path.{fun_ext}
-use Rattle.std.proofs.lemmas.Bool.{cases_lt}
-use Rattle.std.proofs.lemmas.List.{length-map}
 use Rattle.std.proofs.lemmas.Option.{slice_get_within}
-use Rattle.std.proofs.lemmas.List.Elements.{All-contains, Contains-append_left, Contains-append_right}
+use Rattle.std.proofs.lemmas.List.Elements.{All-contains}
 use Rattle.labels.specs.Labels.{Label, Function, with_below}
 use Rattle.bdd_nodes.specs.Shelf.{Contents, count_of, limit_of}
 use Rattle.bdd_walk.specs.Under.{IsMissingAmong}
@@ -15,78 +13,19 @@ use Rattle.gta_theory.specs.Guides.{Spaces, IsGuide, IsSpace, left, right}
 use Rattle.gta_theory.specs.Automata.{Automaton, IsStable, Has}
 use Rattle.gta_theory.specs.Constructions.{IsStepOf, IsSubset}
 use Rattle.gta_theory.specs.Generated.{Generated, starts, steps}
-use Rattle.gta_theory.specs.Sizes.{IsPart, SizeIn, sum_below, SizeOf}
+use Rattle.gta_theory.specs.Sizes.{IsPart, SizeIn, SizeOf}
 use Rattle.gta_theory.proofs.SubsetLemmas.{IsClosed-subset}
 use Rattle.gta_theory.proofs.CountingLemmas.{matched-le}
-use Rattle.gta_theory.proofs.ListsLemmas.{Contains-map, place-once}
+use Rattle.gta_theory.proofs.ListsLemmas.{place-once}
 use Rattle.gta_theory.proofs.SizesLemmas.{length-partners}
 use Rattle.bdd_walk.specs.Sets.{IsSet}
 use Rattle.gta_subsets.specs.Subsets.{subsets, IsInitial, AreInitial}
 use Rattle.bdd_walk.proofs.SetsLemmas.{sets-same}
 use Rattle.gta_subsets.proofs.SubsetsLemmas.{set_step-has, set_step-only, IsSet-step}
-use Rattle.gta_project.proofs.CellsLemmas.{get-index}
+use Rattle.gta_core.proofs.SpacesLemmas.{all_spaces, term-le}
+use Rattle.gta_core.proofs.CellsLemmas.{get-index, IsInTable, in-table}
 use Rattle.gta_project.specs.Building.{IsStepFunction, ExceedsSteps, HasManyCells}
 use Rattle.gta_project.proofs.ShelfLemmas.{Contains-get}
-
--- the parts of the spaces below a number, each with its space
-record ListsSpaces (g : Spaces) (C : Automaton ℕ) (has : ℕ → ℕ → Type 0) (below count : ℕ) : Type 0 where
-  parts : List (ℕ × Function)
-  every : (s : ℕ) (f : Function) → s < below → IsPart g C has s f → Contains parts (s, f)
-  few : length parts ≤ count
-
-module _ (g : Spaces) (C : Automaton ℕ) (has : ℕ → ℕ → Type 0) (n : ℕ) (size : SizeOf g C has n) where
-  spaces_below : (m : ℕ) → m ≤ length g → ListsSpaces g C has m (sum_below size.sizes m)
-  spaces_below zero within = record { parts = []; every = λ s f below part. absurd (omega arith); few = omega arith }
-  spaces_below (suc m) within =
-      let before = spaces_below m (omega arith) in
-      let here = size.in_space m (omega arith) in
-      let tag = λ (f : Function). let p : ℕ × Function = (m, f) in p in
-      record {
-        parts = before.parts ++ map tag here.parts;
-        every = λ s f below part. elim (cases_lt s m) [
-          | inl early ↦ Contains-append_left before.parts (map tag here.parts) (s, f) (before.every s f early part)
-          | inr last ↦ (let same : s ≡ m = omega arith in
-              subst (λ (k : ℕ). Contains (before.parts ++ map tag here.parts) (k, f)) (sym same)
-              (Contains-append_right before.parts (map tag here.parts) (m, f)
-              (Contains-map tag here.parts f ((here.all_parts).every f (subst (λ (k : ℕ). IsPart g C has k f) same part)))))
-        ];
-        few = omega (arith, length-append before.parts (map tag here.parts), length-map here.parts tag, before.few, here.is_sum);
-      }
-
-  all_spaces : ListsSpaces g C has (length g) n
-  all_spaces = subst (ListsSpaces g C has (length g)) size.is_sum (spaces_below (length g) (omega arith))
-
--- one of the numbers that are added up
-term-le : (f : ℕ → ℕ) (m s : ℕ) → s < m → f s ≤ sum_below f m
-term-le f zero s within = absurd (omega arith)
-term-le f (suc m) s within = elim (cases_lt s m) [
-  | inl early ↦ omega (arith, term-le f m s early)
-  | inr last ↦ (let same : s ≡ m = omega arith in subst (λ (k : ℕ). f k ≤ sum_below f m + f m) (sym same) (omega arith))
-]
-
--- the row and the column of a place in a table of h rows and w columns
-record IsPlaceIn (h w k : ℕ) : Type 0 where
-  row : ℕ
-  column : ℕ
-  row_within : row < h
-  column_within : column < w
-  is : k ≡ row * w + column
-
-place-in : (h w k : ℕ) → k < h * w → IsPlaceIn h w k
-place-in zero w k within = absurd (omega arith)
-place-in (suc h) w k within = elim (cases_lt k w) [
-  | inl first ↦ record { row = 0; column = k; row_within = omega arith; column_within = first; is = omega arith }
-  | inr later ↦
-      let before = place-in h w (k - w) (omega arith) in
-      let at = before.is in
-      record {
-        row = suc before.row;
-        column = before.column;
-        row_within = omega (arith, before.row_within);
-        column_within = before.column_within;
-        is = omega arith;
-      }
-]
 
 same_pair : (a b : ℕ × ℕ) → ◌≡◌ {A = Option (ℕ × ℕ)} (Some a) (Some b) → a ≡ b
 same_pair a b e = cc
@@ -176,7 +115,7 @@ module _ (g : Spaces) (guide : IsGuide g) (A : Automaton ℕ) (stable : IsStable
 
     -- the cell at this place has the names at that one
     record IsCellOf (k j : ℕ) : Type 0 where
-      place : IsPlaceIn (length many.rows) (length many.columns) k
+      place : IsInTable (length many.rows) (length many.columns) k
       names : ℕ × ℕ
       there : slice_get in_space.pairs j ≡ Some names
       row : Names (left g many.space) names.0 (slice_index_or many.rows place.row [])
@@ -184,7 +123,7 @@ module _ (g : Spaces) (guide : IsGuide g) (A : Automaton ℕ) (stable : IsStable
 
     cell-of : (k : ℕ) → k < length many.rows * length many.columns → (j : ℕ) × (j < length in_space.pairs) × IsCellOf k j
     cell-of k within =
-        let place = place-in (length many.rows) (length many.columns) k within in
+        let place = in-table (length many.rows) (length many.columns) k within in
         let l = slice_index_or many.rows place.row [] in
         let r = slice_index_or many.columns place.column [] in
         let x = named (left g many.space) l (many.in_left place.row [] place.row_within) in

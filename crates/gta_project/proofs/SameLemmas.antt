@@ -14,7 +14,7 @@ use Rattle.gta_core.proofs.AutoLemmas.{past-none}
 use Rattle.gta_subsets.specs.Numbers.{AreNumbers, Extends}
 use Rattle.gta_project.specs.Building.{AreSpaces, IsBuilt, IsPartOf, AreParts, ExtendAll}
 use Rattle.gta_subsets.proofs.NumbersLemmas.{Extends-refl, Extends-trans, get-snoc, get-kept, get-last}
-use Rattle.gta_project.proofs.CellsLemmas.{cell-inside, get-index}
+use Rattle.gta_core.proofs.CellsLemmas.{cell-inside, get-index}
 use Rattle.gta_project.proofs.JoinsLemmas.{IsCell-kept}
 
 ext : {X : Type 0} (xs ys : List X) → ((i : ℕ) → slice_get xs i ≡ slice_get ys i) → xs ≡ ys

@@ -4,6 +4,7 @@ use Rattle.std.proofs.Common.{Option, Some, None, Contains, slice_get, refl, sym
 use Rattle.std.specs.Prelude.{IsSome, option_map, option_and_then, unwrap_or}
 use Rattle.std.proofs.lemmas.Bool.{false≢true}
 use Rattle.std.proofs.lemmas.Option.{slice_get-get_or}
+use Rattle.bdd_nodes.specs.declared.node_ref.NodeRef.{NodeRef}
 use Rattle.bdd_nodes.specs.Roots.{Registered, roots_under, root_under}
 use Rattle.bdd_nodes.specs.Shelf.{Contents, IsShelf, root_of}
 use Rattle.bdd_nodes.specs.Changes.{Keeps, SameTables}
@@ -11,12 +12,13 @@ use Rattle.gta_theory.specs.Guides.{Spaces, IsGuide, IsSpace, left, right}
 use Rattle.gta_theory.specs.Automata.{Automaton}
 use Rattle.labels.specs.Labels.{with_track}
 use Rattle.gta_subsets.specs.Subsets.{subsets, AreInitial}
+use Rattle.gta_subsets.specs.Roots.{IsTableOf}
 use Rattle.gta_subsets.proofs.SubsetsLemmas.{set_step-only}
 use Rattle.gta_subsets.proofs.ClosingLemmas.{settled-below, get-index}
 use Rattle.gta_theory.specs.Generated.{Generated, starts, steps}
 use Rattle.gta_theory.specs.Numbered.{Below}
 use Rattle.gta_core.specs.declared.part.Part.{Part}
-use Rattle.gta_core.specs.Auto.{AutoView, states_of, initial_of, place_in, place_of, table_of, root_at, automaton_of, IsAuto}
+use Rattle.gta_core.specs.Auto.{AutoView, states_of, initial_of, place_in, place_of, root_at, automaton_of, IsAuto}
 use Rattle.gta_core.proofs.AutoLemmas.{automaton_of-kept, IsAuto-kept}
 use Rattle.gta_core.proofs.KeptLemmas.{KeepsTable-joins}
 
@@ -40,8 +42,13 @@ module _ (old new : Contents) (is_shelf : IsShelf old) (keeps : Keeps old new) (
   unfolding root_at
   root_at-kept a s l r = ap (λ (roots : Registered). option_and_then (root_under roots.tables a.table) (place_of a s l r)) tables
 
-  pub table_of-kept : (a : AutoView) → table_of old a ≡ table_of new a
-  table_of-kept a = ap (λ (roots : Registered). unwrap_or (roots_under roots.tables a.table) []) (sym tables)
+-- nor do they change the roots of a table
+pub IsTableOf-kept : (old new : Contents) → IsShelf new → SameTables old new → (a : AutoView) (table : List NodeRef) →
+    IsTableOf old a table → IsTableOf new a table
+IsTableOf-kept old new is_shelf tables a table was = record {
+  is_shelf = is_shelf;
+  are = was.are ∙ ap (λ (roots : Registered). unwrap_or (roots_under roots.tables a.table) []) (sym tables);
+}
 
 within-some : {X : Type 0} (xs : List X) (i : ℕ) → IsSome (slice_get xs i) → i < length xs
 within-some [] i some = absurd (false≢true some)

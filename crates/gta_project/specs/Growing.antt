@@ -1,6 +1,6 @@
 -- How the sets of the spaces grow while a projection is built, and what each space was joined for.
 use Rattle.std.specs.Prelude.{◌≡◌, ℕ, ◌+◌, ◌-◌, ◌^◌, ◌⊎◌, List, [], ◌∷◌, length, Some, Contains, slice_get}
-use Rattle.bdd_nodes.specs.Shelf.{Contents}
+use Rattle.bdd_nodes.specs.Shelf.{Contents, IsShelf}
 use Rattle.bdd_nodes.specs.Changes.{Keeps, SameTables}
 use Rattle.gta_theory.specs.Guides.{Spaces, left, right}
 use Rattle.gta_theory.specs.Automata.{Automaton}
@@ -43,6 +43,7 @@ module _ (g : Spaces) (Sets : Automaton (List ℕ)) where
     pub extends : ExtendAll before after
     pub keeps : Keeps old new
     pub tables : SameTables old new
+    pub shelf : IsShelf new
     pub building : (start : Contents) → Building g Sets start old before → Building g Sets start new after
 
   -- there is less room than the projection that was being built has missing functions, or a space has many cells

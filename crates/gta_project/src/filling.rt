@@ -4,8 +4,9 @@ ghost use Rattle.std.specs.Prelude.{◌≡◌, ℕ, List, [], ◌∷◌, Some, E
 ghost use Rattle.bdd_walk.specs.Answers.{Completes};
 ghost use Rattle.bdd_walk.specs.Fits.{FitsSets};
 ghost use Rattle.bdd_nodes.specs.Shelf.{IsValid};
-ghost use Rattle.gta_core.specs.Auto.{table_of, root_at, automaton_of};
+ghost use Rattle.gta_core.specs.Auto.{root_at, automaton_of};
 ghost use Rattle.gta_subsets.specs.Subsets.{set_step};
+ghost use Rattle.gta_subsets.specs.Roots.{IsTableOf};
 ghost use Rattle.gta_subsets.specs.Numbers.{number_in, numbered, AreNumbers};
 ghost use Rattle.gta_subsets.specs.Classes.{HaveClasses};
 ghost use Rattle.gta_subsets.specs.Shorts.{rows_in, columns_in, AreShorts};
@@ -35,10 +36,11 @@ fn join_cell(
     joiner: &mut SetJoiner,
     numbers: &mut Numbering,
 ) -> Result<NodeRef, Stop>
-    requires table { table.now ≡ table_of shelf.old a.now }
+    requires table { IsTableOf shelf.old a.now table.now }
     requires known { (l r : ℕ) → Contains left.now l → Contains right.now r → IsSome (root_at shelf.old a.now space l r) }
     requires rows { HaveClasses (rows_in a.now space) left.now short_left.now }
     requires columns { HaveClasses (columns_in a.now space) right.now short_right.now }
+    requires numbers { AreNumbers numbers.old }
     requires fits { FitsSets joiner.old track shelf.old (numbered numbers.old) }
     ensures joins { Joins (set_step (automaton_of shelf.old a.now) track) space (left.now ∷ []) (right.now ∷ [])
         shelf.old shelf.new numbers.old numbers.new }
@@ -48,12 +50,8 @@ fn join_cell(
     ensures fits { OnOk result (FitsSets joiner.new track shelf.new (numbered numbers.new)) }
     ensures numbers { AreNumbers numbers.new }
 {
-    // Only for their clauses `shelf` and `numbers`.
-    let _ = (shelf.count(), numbers.len());
     roots_at(a, table, space, short_left, short_right, found)?;
-    let joined = joiner.join(alloc, shelf, found.as_slice(), track, numbers);
-    let _ = numbers.len();
-    let made = joined?;
+    let made = joiner.join(alloc, shelf, found.as_slice(), track, numbers)?;
     Ok(made)
 }
 
@@ -74,12 +72,13 @@ fn fill_row(
     numbers: &mut Numbering,
     roots: &mut RefList,
 ) -> Result<(), Stop>
-    requires table { table.now ≡ table_of shelf.old a.now }
+    requires table { IsTableOf shelf.old a.now table.now }
     requires known { (column : List ℕ) → Contains columns.now column → (l r : ℕ) → Contains row.now l → Contains column r →
         IsSome (root_at shelf.old a.now space l r) }
     requires short { HaveClasses (rows_in a.now space) row.now short.now }
     requires shorts { AreShorts (columns_in a.now space) columns.now shorts.now }
     requires valid { All (IsValid shelf.old) roots.old }
+    requires numbers { AreNumbers numbers.old }
     requires fits { FitsSets joiner.old track shelf.old (numbered numbers.old) }
     ensures joins { Joins (set_step (automaton_of shelf.old a.now) track) space (row.now ∷ []) columns.now
         shelf.old shelf.new numbers.old numbers.new }
@@ -91,8 +90,6 @@ fn fill_row(
     ensures fits { OnOk result (FitsSets joiner.new track shelf.new (numbered numbers.new)) }
     ensures numbers { AreNumbers numbers.new }
 {
-    // Only for their clauses `shelf` and `numbers`.
-    let _ = (shelf.count(), numbers.len());
     let mut found = Vec::new(alloc);
     for at in 0..columns.len() {
         let column = columns[at].as_slice();
@@ -121,10 +118,11 @@ pub(crate) fn fill(
     numbers: &mut Numbering,
     roots: &mut RefList,
 ) -> Result<(), Stop>
-    requires table { table.now ≡ table_of shelf.old a.now }
+    requires table { IsTableOf shelf.old a.now table.now }
     requires known { (row column : List ℕ) → Contains rows.now row → Contains columns.now column → (l r : ℕ) → Contains row l →
         Contains column r → IsSome (root_at shelf.old a.now space l r) }
     requires valid { All (IsValid shelf.old) roots.old }
+    requires numbers { AreNumbers numbers.old }
     requires fits { FitsSets joiner.old track shelf.old (numbered numbers.old) }
     ensures joins { Joins (set_step (automaton_of shelf.old a.now) track) space rows.now columns.now
         shelf.old shelf.new numbers.old numbers.new }
@@ -136,8 +134,6 @@ pub(crate) fn fill(
     ensures fits { OnOk result (FitsSets joiner.new track shelf.new (numbered numbers.new)) }
     ensures numbers { AreNumbers numbers.new }
 {
-    // Only for their clauses `shelf` and `numbers`.
-    let _ = (shelf.count(), numbers.len());
     let (row_classes, column_classes) = classes_in(a, space);
     let shorts = shortened(alloc, columns, column_classes)?;
     for row in rows {

@@ -4,7 +4,8 @@ ghost use Rattle.std.specs.Prelude.{◌≡◌, ◌<◌, ◌*◌, ◌⊎◌, ℕ,
 ghost use Rattle.gta_theory.specs.Automata.{Automaton};
 ghost use Rattle.gta_theory.specs.Guides.{left, right};
 ghost use Rattle.gta_subsets.specs.Subsets.{subsets, AreInitial};
-ghost use Rattle.gta_core.specs.Auto.{AutoView, table_of, automaton_of, IsAuto};
+ghost use Rattle.gta_subsets.specs.Roots.{IsTableOf};
+ghost use Rattle.gta_core.specs.Auto.{AutoView, automaton_of, IsAuto};
 ghost use Rattle.gta_project.specs.Building.{AreSpaces, FitAll};
 ghost use Rattle.gta_project.specs.Growing.{AreGenerated, IsKeyed, HasSeen, HaveSeen, Goes, LacksRoom};
 
@@ -96,7 +97,7 @@ pub(crate) fn grow(
     growths: &mut Vec<Growth>,
 ) -> Result<(), Stop>
     requires auto { IsAuto g.now shelf.old a.now }
-    requires table { table.now ≡ table_of shelf.old a.now }
+    requires table { IsTableOf shelf.old a.now table.now }
     requires initials { AreInitial g.now (automaton_of shelf.old a.now) track initials.now }
     requires spaces { AreSpaces g.now (subsets (automaton_of shelf.old a.now) track initials.now) numbers.old.items }
     requires seen { HaveSeen g.now (subsets (automaton_of shelf.old a.now) track initials.now) a.now growths.old.items }
@@ -109,8 +110,6 @@ pub(crate) fn grow(
     ensures seen { OnOk result (HaveSeen g.now (subsets (automaton_of shelf.old a.now) track initials.now) a.now growths.new.items) }
     ensures fits { OnOk result (FitAll track shelf.new joiners.new.items numbers.new.items) }
 {
-    // Only for its clause `shelf`.
-    let _ = shelf.count();
     loop {
         let before = counts(alloc, numbers)?;
         grow_once(
@@ -138,7 +137,7 @@ fn grow_once(
     growths: &mut Vec<Growth>,
 ) -> Result<(), Stop>
     requires auto { IsAuto g.now shelf.old a.now }
-    requires table { table.now ≡ table_of shelf.old a.now }
+    requires table { IsTableOf shelf.old a.now table.now }
     requires initials { AreInitial g.now (automaton_of shelf.old a.now) track initials.now }
     requires spaces { AreSpaces g.now (subsets (automaton_of shelf.old a.now) track initials.now) numbers.old.items }
     requires seen { HaveSeen g.now (subsets (automaton_of shelf.old a.now) track initials.now) a.now growths.old.items }
@@ -151,8 +150,6 @@ fn grow_once(
     ensures seen { OnOk result (HaveSeen g.now (subsets (automaton_of shelf.old a.now) track initials.now) a.now growths.new.items) }
     ensures fits { OnOk result (FitAll track shelf.new joiners.new.items numbers.new.items) }
 {
-    // Only for its clause `shelf`.
-    let _ = shelf.count();
     for space in 0..g.spaces() {
         let growth = &mut growths[space as usize];
         grow_space(
@@ -178,7 +175,7 @@ fn grow_space(
     growth: &mut Growth,
 ) -> Result<(), Stop>
     requires auto { IsAuto g.now shelf.old a.now }
-    requires table { table.now ≡ table_of shelf.old a.now }
+    requires table { IsTableOf shelf.old a.now table.now }
     requires initials { AreInitial g.now (automaton_of shelf.old a.now) track initials.now }
     requires spaces { AreSpaces g.now (subsets (automaton_of shelf.old a.now) track initials.now) numbers.old.items }
     requires inside { space < length g.now }
@@ -192,8 +189,6 @@ fn grow_space(
     ensures seen { OnOk result (HasSeen g.now (subsets (automaton_of shelf.old a.now) track initials.now) a.now space growth.new) }
     ensures fits { OnOk result (FitAll track shelf.new joiners.new.items numbers.new.items) }
 {
-    // Only for its clause `shelf`.
-    let _ = shelf.count();
     let (rows, columns) = (growth.rows.ones.len(), growth.columns.ones.len());
     look_at(alloc, g, a, track, initials, shelf, space, numbers, growth)?;
     if exceeds(
@@ -264,7 +259,7 @@ fn look_at(
 #[allow(clippy::too_many_arguments)]
 fn join_sets(
     alloc: Global,
-    g: &Guide,
+    _g: &Guide,
     a: &Auto,
     table: &[NodeRef],
     track: u32,
@@ -276,23 +271,21 @@ fn join_sets(
     joiners: &mut Vec<SetJoiner>,
     numbers: &mut Vec<Numbering>,
 ) -> Result<(), Stop>
-    requires auto { IsAuto g.now shelf.old a.now }
-    requires table { table.now ≡ table_of shelf.old a.now }
-    requires initials { AreInitial g.now (automaton_of shelf.old a.now) track _initials.now }
-    requires spaces { AreSpaces g.now (subsets (automaton_of shelf.old a.now) track _initials.now) numbers.old.items }
-    requires inside { space < length g.now }
-    requires rows { AreGenerated g.now (subsets (automaton_of shelf.old a.now) track _initials.now) (left g.now space) rows.now }
-    requires columns { AreGenerated g.now (subsets (automaton_of shelf.old a.now) track _initials.now) (right g.now space) columns.now }
+    requires auto { IsAuto _g.now shelf.old a.now }
+    requires table { IsTableOf shelf.old a.now table.now }
+    requires initials { AreInitial _g.now (automaton_of shelf.old a.now) track _initials.now }
+    requires spaces { AreSpaces _g.now (subsets (automaton_of shelf.old a.now) track _initials.now) numbers.old.items }
+    requires inside { space < length _g.now }
+    requires rows { AreGenerated _g.now (subsets (automaton_of shelf.old a.now) track _initials.now) (left _g.now space) rows.now }
+    requires columns { AreGenerated _g.now (subsets (automaton_of shelf.old a.now) track _initials.now) (right _g.now space) columns.now }
     requires fits { FitAll track shelf.old joiners.old.items numbers.old.items }
-    ensures goes { Goes g.now (subsets (automaton_of shelf.old a.now) track _initials.now)
+    ensures goes { Goes _g.now (subsets (automaton_of shelf.old a.now) track _initials.now)
         shelf.old shelf.new numbers.old.items numbers.new.items }
-    ensures limit { result ≡ Err Stop.Limit → LacksRoom g.now (subsets (automaton_of shelf.old a.now) track _initials.now)
+    ensures limit { result ≡ Err Stop.Limit → LacksRoom _g.now (subsets (automaton_of shelf.old a.now) track _initials.now)
         shelf.old numbers.old.items numbers.new.items }
-    ensures spaces { AreSpaces g.now (subsets (automaton_of shelf.old a.now) track _initials.now) numbers.new.items }
+    ensures spaces { AreSpaces _g.now (subsets (automaton_of shelf.old a.now) track _initials.now) numbers.new.items }
     ensures fits { OnOk result (FitAll track shelf.new joiners.new.items numbers.new.items) }
 {
-    // Only for its clause `guide`.
-    let _ = g.spaces();
     if rows.is_empty() || columns.is_empty() {
         return Ok(());
     }

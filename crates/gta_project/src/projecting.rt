@@ -9,11 +9,12 @@ ghost use Rattle.gta_theory.specs.Guides.{Spaces, IsGuide, IsSpace, left, right}
 ghost use Rattle.gta_theory.specs.Automata.{Automaton, Accepts, Has};
 ghost use Rattle.gta_theory.specs.Constructions.{IsSubset};
 ghost use Rattle.gta_theory.specs.Sizes.{SizeOf};
-ghost use Rattle.gta_core.specs.Auto.{states_of, is_accepting, table_of, automaton_of, IsAuto};
+ghost use Rattle.gta_core.specs.Auto.{states_of, is_accepting, automaton_of, IsAuto};
 ghost use Rattle.gta_core.specs.Changes.{RegistersTable};
 ghost use Rattle.gta_core.specs.Placing.{Grows};
 ghost use Rattle.bdd_walk.specs.Sets.{IsSet};
 ghost use Rattle.gta_subsets.specs.Subsets.{subsets, AreInitial};
+ghost use Rattle.gta_subsets.specs.Roots.{IsTableOf};
 ghost use Rattle.gta_project.specs.Project.{IsSubsetOf};
 ghost use Rattle.gta_project.specs.Building.{AreSpaces, FitAll, ExtendAll, Building, CompleteAll, ExceedsSteps, IsPartOf, AreParts, Leaves, Exceeded};
 ghost use Rattle.gta_project.specs.Settled.{IsSettled};
@@ -65,12 +66,11 @@ pub fn project(
     ensures same_limit { limit_of shelf.new ≡ limit_of shelf.old }
     ensures shelf { IsShelf shelf.new }
 {
-    // Only for their clauses `shelf` and `guide`.
-    let _ = (shelf.count(), g.spaces());
+    let room = room_for(shelf.limit());
     let roots = a.roots(alloc, shelf)?;
     let table = roots.as_slice();
     let initials = initial_sets(alloc, g, a, table, t.0, shelf)?;
-    let settled = settle(alloc, g, a, table, t.0, initials.as_slice(), shelf)?;
+    let settled = settle(alloc, g, a, table, t.0, initials.as_slice(), room, shelf)?;
     let Settled {
         numbers,
         parts,
@@ -89,7 +89,9 @@ pub(crate) struct Settled {
     pub(crate) roots: RefList,
 }
 
-/// Joins for the sets as they come, until none comes; and then once more for all sets, which gives the roots.
+/// Joins for the sets as they come, until none comes; and then once more for all sets, which gives the roots. The sets of a
+/// space have room for so many states together.
+#[allow(clippy::too_many_arguments)]
 fn settle(
     alloc: Global,
     g: &Guide,
@@ -97,18 +99,18 @@ fn settle(
     table: &[NodeRef],
     track: u32,
     initials: &[StateList],
+    room: usize,
     shelf: &mut Shelf,
 ) -> Result<Settled, Stop>
     requires auto { IsAuto g.now shelf.old a.now }
-    requires table { table.now ≡ table_of shelf.old a.now }
+    requires table { IsTableOf shelf.old a.now table.now }
     requires initials { AreInitial g.now (automaton_of shelf.old a.now) track initials.now }
     ensures leaves { Leaves shelf.old shelf.new }
     ensures limit { result ≡ Err Stop.Limit → Exceeded g.now (subsets (automaton_of shelf.old a.now) track initials.now) shelf.old }
     ensures settled { IfOk result (IsSettled g.now (subsets (automaton_of shelf.old a.now) track initials.now) a.now shelf.old shelf.new) }
+    ensures guide { IsGuide g.now }
 {
-    // Only for its clause `shelf`.
-    let _ = shelf.count();
-    let mut numbers = start(alloc, g, initials, room_for(shelf.limit()))?;
+    let mut numbers = start(alloc, g, initials, room)?;
     let mut joiners = joiners(alloc, g)?;
     let mut growths = growths(alloc, g)?;
     loop {
@@ -158,7 +160,8 @@ fn start(
 ) -> Result<Vec<Numbering>, NoMemory>
     requires many { length initials.now ≡ length g.now }
     requires sets { (k : ℕ) (set : List ℕ) → slice_get initials.now k ≡ Some set → IsSet set }
-    ensures { IfOk result (λ spaces. (A : Automaton ℕ) (track : ℕ) → AreSpaces g.now (subsets A track initials.now) spaces.items) }
+    ensures spaces { IfOk result (λ spaces. (A : Automaton ℕ) (track : ℕ) → AreSpaces g.now (subsets A track initials.now) spaces.items) }
+    ensures guide { IsGuide g.now }
 {
     let mut spaces = Vec::new(alloc);
     for space in 0..g.spaces() {
@@ -230,7 +233,7 @@ fn parts_of(
     roots: &mut RefList,
 ) -> Result<Items<Part>, Stop>
     requires auto { IsAuto g.now shelf.old a.now }
-    requires table { table.now ≡ table_of shelf.old a.now }
+    requires table { IsTableOf shelf.old a.now table.now }
     requires initials { AreInitial g.now (automaton_of shelf.old a.now) track initials.now }
     requires spaces { AreSpaces g.now (subsets (automaton_of shelf.old a.now) track initials.now) numbers.old.items }
     requires fits { FitAll track shelf.old joiners.old.items numbers.old.items }
@@ -250,8 +253,6 @@ fn parts_of(
         AreParts g.now (subsets (automaton_of shelf.old a.now) track initials.now) a.now
         numbers.old.items numbers.old.items shelf.new roots.new parts) }
 {
-    // Only for its clause `shelf`.
-    let _ = shelf.count();
     let mut parts = Items::new(alloc);
     for space in 0..g.spaces() {
         let part = part_of(
@@ -278,7 +279,7 @@ fn part_of(
     roots: &mut RefList,
 ) -> Result<Part, Stop>
     requires auto { IsAuto g.now shelf.old a.now }
-    requires table { table.now ≡ table_of shelf.old a.now }
+    requires table { IsTableOf shelf.old a.now table.now }
     requires initials { AreInitial g.now (automaton_of shelf.old a.now) track _initials.now }
     requires spaces { AreSpaces g.now (subsets (automaton_of shelf.old a.now) track _initials.now) numbers.old.items }
     requires fits { FitAll track shelf.old joiners.old.items numbers.old.items }

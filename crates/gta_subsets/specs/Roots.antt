@@ -1,7 +1,13 @@
 -- The roots for a state of each of two lists.
 use Rattle.std.specs.Prelude.{◌≡◌, ◌⊎◌, ℕ, List, Option, Some, Contains, option_and_then, slice_get}
 use Rattle.bdd_nodes.specs.declared.node_ref.NodeRef.{NodeRef}
-use Rattle.gta_core.specs.Auto.{AutoView, root_among}
+use Rattle.bdd_nodes.specs.Shelf.{Contents, IsShelf}
+use Rattle.gta_core.specs.Auto.{AutoView, table_of, root_among}
+
+-- the roots are those that the automaton's table has in the shelf
+pub record IsTableOf (shelf : Contents) (a : AutoView) (table : List NodeRef) : Type 0 where
+  pub is_shelf : IsShelf shelf
+  pub are : table ≡ table_of shelf a
 
 -- the root of each pair of child states; none for an unknown state
 abbrev pub Rooting : Type 0

@@ -4,10 +4,10 @@ ghost use Rattle.std.specs.Prelude.{◌≡◌, ◌<◌, ◌++◌, ℕ, [], ◌�
 ghost use Rattle.labels.specs.Labels.{empty_label, with_track};
 ghost use Rattle.bdd_nodes.specs.Shelf.{IsValid, state_of, label_of};
 ghost use Rattle.bdd_walk.specs.Asked.{leaves_of};
-ghost use Rattle.gta_theory.specs.Guides.{IsSpace};
-ghost use Rattle.gta_core.specs.Auto.{states_of, initial_of, table_of, root_at, automaton_of, IsAuto};
+ghost use Rattle.gta_theory.specs.Guides.{IsGuide, IsSpace};
+ghost use Rattle.gta_core.specs.Auto.{states_of, initial_of, root_at, automaton_of, IsAuto};
 ghost use Rattle.gta_subsets.specs.Subsets.{AreInitial};
-ghost use Rattle.gta_subsets.specs.Roots.{AreRoots};
+ghost use Rattle.gta_subsets.specs.Roots.{IsTableOf, AreRoots};
 ghost use Rattle.gta_subsets.specs.Closing.{set_at, IsNext, AreNext, AreSettled};
 
 use crate::roots::{make_distinct, roots_at};
@@ -29,11 +29,9 @@ pub fn initial_sets(
     shelf: &Shelf,
 ) -> Result<Items<StateList>, NoMemory>
     requires auto { IsAuto g.now shelf.now a.now }
-    requires table { table.now ≡ table_of shelf.now a.now }
+    requires table { IsTableOf shelf.now a.now table.now }
     ensures { IfOk result (AreInitial g.now (automaton_of shelf.now a.now) track) }
 {
-    // Only for its clause `guide`.
-    let _ = g.spaces();
     let mut sets = Items::new(alloc);
     let mut many = 0;
     loop {
@@ -93,9 +91,10 @@ fn next_sets(
     sets: &[StateList],
 ) -> Result<Items<StateList>, NoMemory>
     requires auto { IsAuto g.now shelf.now a.now }
-    requires table { table.now ≡ table_of shelf.now a.now }
+    requires table { IsTableOf shelf.now a.now table.now }
     requires settled { AreSettled g.now (automaton_of shelf.now a.now) track sets.now }
-    ensures { IfOk result (AreNext g.now (automaton_of shelf.now a.now) track sets.now) }
+    ensures next { IfOk result (AreNext g.now (automaton_of shelf.now a.now) track sets.now) }
+    ensures guide { IsGuide g.now }
 {
     let mut next = Items::new(alloc);
     for space in 0..g.spaces() {
@@ -116,7 +115,7 @@ fn next_set(
     space: u32,
 ) -> Result<StateList, NoMemory>
     requires auto { IsAuto g.now shelf.now a.now }
-    requires table { table.now ≡ table_of shelf.now a.now }
+    requires table { IsTableOf shelf.now a.now table.now }
     requires settled { AreSettled g.now (automaton_of shelf.now a.now) track sets.now }
     requires inside { IsSpace g.now space }
     ensures { IfOk result (IsNext g.now (automaton_of shelf.now a.now) track sets.now space) }
@@ -139,18 +138,16 @@ fn roots_for(
     alloc: Global,
     a: &Auto,
     table: &[NodeRef],
-    shelf: &Shelf,
+    _shelf: &Shelf,
     space: u32,
     lefts: &[u32],
     rights: &[u32],
 ) -> Result<Vec<NodeRef>, NoMemory>
-    requires table { table.now ≡ table_of shelf.now a.now }
-    requires known { (l r : ℕ) → Contains lefts.now l → Contains rights.now r → IsSome (root_at shelf.now a.now space l r) }
-    ensures roots { IfOk result (λ roots. AreRoots (root_at shelf.now a.now space) lefts.now rights.now roots.items) }
-    ensures valid { IfOk result (λ roots. All (IsValid shelf.now) roots.items) }
+    requires table { IsTableOf _shelf.now a.now table.now }
+    requires known { (l r : ℕ) → Contains lefts.now l → Contains rights.now r → IsSome (root_at _shelf.now a.now space l r) }
+    ensures roots { IfOk result (λ roots. AreRoots (root_at _shelf.now a.now space) lefts.now rights.now roots.items) }
+    ensures valid { IfOk result (λ roots. All (IsValid _shelf.now) roots.items) }
 {
-    // Only for its clause `shelf`.
-    let _ = shelf.count();
     let (rows, columns) = classes_in(a, space);
     let left = one_a_class(alloc, lefts, rows)?;
     let right = one_a_class(alloc, rights, columns)?;

@@ -102,11 +102,11 @@ impl Numbering {
 }
 
 impl LeafRule for Numbering {
-    ghost use Rattle.gta_subsets.specs.Numbers.{numbered, AreOfOneSet};
+    ghost use Rattle.gta_subsets.specs.Numbers.{numbered, AreNumbers, AreOfOneSet};
 
     ghost answers = { λ sets. numbered sets };
 
-    ghost may_ask = { λ sets states. Unit };
+    ghost may_ask = { λ sets states. AreNumbers sets };
 
     ghost like = { AreOfOneSet };
 

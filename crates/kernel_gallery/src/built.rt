@@ -8,11 +8,11 @@ ghost use Rattle.gta_core.specs.declared.build.SpacePart.{SpacePart};
 ghost use Rattle.kernel_gallery.specs.Told.{two_spaces, told_part, told_parts};
 
 use crate::steps::go_on;
-use anyhow::Result;
 use bdd_nodes::{Full, NodeRef, Shelf};
 use bdd_walk::Stop;
 use gta_core::{Auto, SpacePart, SpacePartList};
 use plain_data::Items;
+use plain_writer::Writer;
 use std::alloc::{AllocError, Global};
 use ws2s_core::Guide;
 
@@ -74,7 +74,7 @@ fn built(
 }
 
 /// Writes what the words behind the first one ask for. The first one says which states accept, as `011`.
-pub(crate) fn answer_built(alloc: Global, line: &str, out: &mut String) -> Result<()> {
+pub(crate) fn answer_built(alloc: Global, line: &str, out: &mut Writer) -> Result<(), Stop> {
     let (states, words) = line.split_once(' ').unwrap_or((line, ""));
     let accepting = (
         states.starts_with('1'),
@@ -84,7 +84,5 @@ pub(crate) fn answer_built(alloc: Global, line: &str, out: &mut String) -> Resul
     let g = guide(alloc)?;
     let mut shelf = Shelf::open(alloc, 100)?;
     let a = built(alloc, &g, accepting, &mut shelf)?;
-    go_on(alloc, &g, a, words, &mut shelf, out)?;
-    out.push_str("\n")?;
-    Ok(())
+    go_on(alloc, &g, a, words, &mut shelf, out)
 }

@@ -1,16 +1,19 @@
 //! The texts of a bundle, one after the other.
 
-ghost use Rattle.std.specs.Prelude.{◌≤◌, IfOk};
+ghost use Rattle.std.specs.Prelude.{◌≤◌};
 
 use crate::built::answer_built;
 use crate::chains::answer_chain;
-use crate::graphs::answer_graph;
-use crate::guides::{Over, guide};
+use crate::graphs::answer_form;
 use crate::joins::answer_join;
-use crate::steps::answer_line;
-use anyhow::{Context, Result, bail};
+use crate::lines::{number_of, word_at, write_unknown};
+use crate::steps::answer_literal;
+use anyhow::Result;
+use bdd_walk::Stop;
 use pale_io::{Sink, write_all};
-use std::alloc::{AllocError, Global};
+use plain_writer::Writer;
+use std::alloc::Global;
+use ws2s_core::Interner;
 
 /// What stands in front of the name in each head.
 const HEAD: &str = "\n=== ";
@@ -18,89 +21,72 @@ const HEAD: &str = "\n=== ";
 /// The most nodes that a shelf may have.
 const MOST_NODES: u32 = 16_000_000;
 
-/// The limit of a word.
-fn limit_of(word: &str) -> Result<u32>
-    ensures some { IfOk result (λ limit. 1 ≤ limit) }
-    ensures small { IfOk result (λ limit. limit ≤ 16000000) }
+/// The limit of a word: at least 1, and not too high.
+fn limit_of(word: &str) -> u32
+    ensures some { 1 ≤ result }
+    ensures small { result ≤ 16000000 }
 {
-    let limit: u32 = word.parse()?;
-    if limit == 0 || limit > MOST_NODES {
-        bail!("no such shelf");
+    let limit = number_of(word);
+    if limit == 0 {
+        1
+    } else if limit > MOST_NODES {
+        MOST_NODES
+    } else {
+        limit
     }
-    Ok(limit)
 }
 
-/// Writes the line, and a colon.
-fn write_line(line: &str, out: &mut String) -> Result<(), AllocError> {
-    out.push_str(line)?;
-    out.push_str(":")
+/// Writes what a line asks for.
+fn answer(
+    alloc: Global,
+    head: &str,
+    line: &str,
+    interner: &mut Interner,
+    out: &mut Writer,
+) -> Result<(), Stop> {
+    let first = word_at(head, 2);
+    match word_at(head, 1) {
+        "automata" => answer_literal(alloc, first, limit_of(word_at(head, 3)), line, out),
+        "joins" => answer_join(alloc, limit_of(first), line, out),
+        "built" => answer_built(alloc, line, out),
+        "chains" => answer_chain(alloc, line, out),
+        "graph" => Ok(answer_form(alloc, interner, line, out)?),
+        _ => {
+            write_unknown(out);
+            Ok(())
+        }
+    }
 }
 
-fn automata(alloc: Global, over: &str, limit: &str, text: &str, out: &mut String) -> Result<()> {
-    let over = Over::of(over).context("an unknown guide")?;
-    let limit = limit_of(limit)?;
-    let g = guide(alloc, over)?;
+/// Writes a head as it stands in the bundle, and each line of its text with what it asks for. One list of numbered formulas is
+/// for all lines.
+fn answer_text(alloc: Global, head: &str, text: &str, out: &mut Writer) -> Result<(), Stop> {
+    out.push_all(b"=== ");
+    out.push_all(head.as_bytes());
+    out.push(b'\n');
+    let mut interner = Interner::new(alloc);
     for line in text.lines() {
-        write_line(line, out)?;
-        answer_line(alloc, &g, limit, line, out)?;
+        out.push_all(line.as_bytes());
+        out.push(b':');
+        answer(alloc, head, line, &mut interner, out)?;
+        out.push(b'\n');
     }
     Ok(())
 }
 
-fn joins(alloc: Global, limit: &str, text: &str, out: &mut String) -> Result<()> {
-    let limit = limit_of(limit)?;
-    for line in text.lines() {
-        write_line(line, out)?;
-        answer_join(alloc, limit, line, out)?;
+/// What is written for a bundle.
+fn answers(alloc: Global, bundle: &str) -> Result<Vec<u8>, Stop> {
+    let mut out = Writer::new(alloc);
+    for part in bundle.split(HEAD).skip(1) {
+        let (head, text) = part.split_once('\n').unwrap_or((part, ""));
+        answer_text(alloc, head, text, &mut out)?;
     }
-    Ok(())
-}
-
-fn chains(alloc: Global, text: &str, out: &mut String) -> Result<()> {
-    for line in text.lines() {
-        write_line(line, out)?;
-        answer_chain(alloc, line, out)?;
-    }
-    Ok(())
-}
-
-fn builts(alloc: Global, text: &str, out: &mut String) -> Result<()> {
-    for line in text.lines() {
-        write_line(line, out)?;
-        answer_built(alloc, line, out)?;
-    }
-    Ok(())
-}
-
-/// What is written for a text, behind its head.
-fn answer(alloc: Global, head: &str, text: &str, out: &mut String) -> Result<()> {
-    let mut words = head.split_whitespace().skip(1);
-    let operation = words.next().unwrap_or("");
-    let first = words.next().unwrap_or("");
-    let second = words.next().unwrap_or("");
-    match operation {
-        "automata" => automata(alloc, first, second, text, out),
-        "joins" => joins(alloc, first, text, out),
-        "built" => builts(alloc, text, out),
-        "chains" => chains(alloc, text, out),
-        "graph" => answer_graph(alloc, text, out),
-        _ => bail!("an unknown operation"),
-    }
-}
-
-/// Writes a head as it stands in the bundle, and what its text gives.
-fn show<K: Sink>(alloc: Global, part: &str, sink: &mut K) -> Result<()> {
-    let (head, text) = part.split_once('\n').unwrap_or((part, ""));
-    let mut out = format!(in alloc; "=== {head}\n")?;
-    answer(alloc, head, text, &mut out)?;
-    write_all(sink, out.as_bytes())?;
-    Ok(())
+    Ok(out.finish()?)
 }
 
 /// Shows each text of a bundle.
 pub(crate) fn show_texts<K: Sink>(alloc: Global, bundle: &str, sink: &mut K) -> Result<()> {
-    for part in bundle.split(HEAD).skip(1) {
-        show(alloc, part, sink)?;
-    }
+    let text = answers(alloc, bundle)?;
+    write_all(sink, &text)?;
     Ok(())
 }

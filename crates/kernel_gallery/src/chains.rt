@@ -4,11 +4,13 @@ ghost use Rattle.std.specs.Prelude.{◌≡◌, ◌<◌, ◌≤◌, ◌*◌, IfOk
 
 use crate::chain::chain;
 use crate::grid::grid;
-use crate::looks::lightest;
-use anyhow::{Context, Result, bail};
+use crate::lines::{number_of, word_at, write_unknown};
+use crate::looks::write_lightest;
 use bdd_nodes::Shelf;
+use bdd_walk::Stop;
 use gta_core::BoolList;
 use plain_data::Items;
+use plain_writer::Writer;
 use std::alloc::{AllocError, Global};
 use ws2s_core::Guide;
 
@@ -22,8 +24,14 @@ fn last_accepts(alloc: Global, states: u32) -> Result<BoolList, AllocError>
     Ok(Items::from_vec(accepting))
 }
 
-/// The weight of a lightest tree of a chain in a grid, and how many nodes it has.
-fn lightest_of(alloc: Global, rows: u32, columns: u32, word: &str) -> Result<String>
+/// Writes the lightest tree of a chain in a grid.
+fn write_chain(
+    alloc: Global,
+    rows: u32,
+    columns: u32,
+    word: &str,
+    out: &mut Writer,
+) -> Result<(), Stop>
     requires some { 0 < rows * columns }
     requires columns { 0 < columns }
     requires few { rows * columns ≤ 1000000 }
@@ -34,26 +42,16 @@ fn lightest_of(alloc: Global, rows: u32, columns: u32, word: &str) -> Result<Str
     let functions = chain(alloc, states, &mut shelf)?;
     let accepting = last_accepts(alloc, states)?;
     let a = grid(alloc, rows, columns, functions, accepting, &mut shelf)?;
-    lightest(alloc, &g, &a, &shelf, word)
-}
-
-/// The number of a word.
-fn number(word: Option<&str>) -> Result<u32> {
-    Ok(word.context("a number")?.parse()?)
+    Ok(write_lightest(alloc, &g, &a, &shelf, word, out)?)
 }
 
 /// Writes the lightest tree of a chain: a line has the number of rows, that of columns, and `least` with tracks.
-pub(crate) fn answer_chain(alloc: Global, line: &str, out: &mut String) -> Result<()> {
-    let mut words = line.split_whitespace();
-    let rows = number(words.next())?;
-    let columns = number(words.next())?;
-    let word = words.next().unwrap_or("");
+pub(crate) fn answer_chain(alloc: Global, line: &str, out: &mut Writer) -> Result<(), Stop> {
+    let rows = number_of(word_at(line, 0));
+    let columns = number_of(word_at(line, 1));
     if rows == 0 || rows > 999_999 || columns == 0 || columns > 1_000_000 / rows {
-        bail!("no such grid");
+        write_unknown(out);
+        return Ok(());
     }
-    let text = lightest_of(alloc, rows, columns, word)?;
-    out.push_str(" ")?;
-    out.push_str(&text)?;
-    out.push_str("\n")?;
-    Ok(())
+    write_chain(alloc, rows, columns, word_at(line, 2), out)
 }

@@ -2,7 +2,8 @@
 
 ghost use Rattle.std.specs.Prelude.{◌<◌, ◌↔◌, IsTrue, length};
 
-use anyhow::{Result, bail};
+use crate::lines::{number_of, word_at, write_number, write_unknown};
+use plain_writer::Writer;
 use std::alloc::{AllocError, Global};
 use ws2s_core::{Formula, FormulaId, Interner, Node, Track, intern, intern_form};
 
@@ -46,24 +47,65 @@ fn knows(interner: &Interner, id: FormulaId) -> bool
 }
 
 /// Writes the numbers of a formula's parts, or of many how many there are, with the first and the last.
+fn write_ids(alloc: Global, ids: &[FormulaId], out: &mut Writer) -> Result<(), AllocError> {
+    match (ids.first(), ids.last()) {
+        (Some(first), Some(last)) if ids.len() > 9 => {
+            write_number(out, b" parts ", ids.len() as u64);
+            write_number(out, b" from ", first.0 as u64);
+            write_number(out, b" to ", last.0 as u64);
+        }
+        _ => {
+            let text = format!(in alloc; " parts {ids:?}")?;
+            out.push_all(text.as_bytes());
+        }
+    }
+    Ok(())
+}
+
+/// Writes the parts of the formula with this number.
 fn write_parts(
     alloc: Global,
     interner: &Interner,
     id: FormulaId,
-    out: &mut String,
+    out: &mut Writer,
 ) -> Result<(), AllocError> {
     if !knows(interner, id) {
-        return out.push_str(" -");
+        out.push_all(b" -");
+        return Ok(());
     }
     let parts = interner.parts(alloc, id)?;
-    let ids = parts.as_slice();
-    let text = match (ids.first(), ids.last()) {
-        (Some(first), Some(last)) if ids.len() > 9 => {
-            format!(in alloc; " parts {} from {} to {}", ids.len(), first.0, last.0)?
+    write_ids(alloc, parts.as_slice(), out)
+}
+
+/// Writes the form of a number.
+fn write_form(
+    alloc: Global,
+    interner: &Interner,
+    id: FormulaId,
+    out: &mut Writer,
+) -> Result<(), AllocError> {
+    match interner.form(id) {
+        Some(form) => {
+            let text = format!(in alloc; " {form:?}")?;
+            out.push_all(text.as_bytes());
         }
-        _ => format!(in alloc; " parts {ids:?}")?,
-    };
-    out.push_str(&text)
+        None => out.push_all(b" none"),
+    }
+    Ok(())
+}
+
+/// Writes the number of a formula's copy, and how many nodes the copy has.
+fn write_copy(
+    alloc: Global,
+    interner: &mut Interner,
+    formula: &Formula,
+    out: &mut Writer,
+) -> Result<(), AllocError> {
+    let copy = formula.copy(alloc)?;
+    let id = intern(alloc, interner, &copy)?;
+    write_number(out, b" ", id.0 as u64);
+    write_number(out, b" size ", copy.size() as u64);
+    Ok(())
 }
 
 /// Writes the number of a formula, that of its copy, how many nodes the copy has, how many parts it has, and the form of its
@@ -72,29 +114,13 @@ fn write_formula(
     alloc: Global,
     interner: &mut Interner,
     formula: &Formula,
-    out: &mut String,
+    out: &mut Writer,
 ) -> Result<(), AllocError> {
     let id = intern(alloc, interner, formula)?;
-    let copy = formula.copy(alloc)?;
-    let other = intern(alloc, interner, &copy)?;
-    let text = format!(in alloc; " {} {} size {}", id.0, other.0, copy.size())?;
-    out.push_str(&text)?;
+    write_number(out, b" ", id.0 as u64);
+    write_copy(alloc, interner, formula, out)?;
     write_parts(alloc, interner, id, out)?;
     write_form(alloc, interner, id, out)
-}
-
-/// Writes the form of a number.
-fn write_form(
-    alloc: Global,
-    interner: &Interner,
-    id: FormulaId,
-    out: &mut String,
-) -> Result<(), AllocError> {
-    let text = match interner.form(id) {
-        Some(form) => format!(in alloc; " {form:?}")?,
-        None => String::from_str(alloc, " none")?,
-    };
-    out.push_str(&text)
 }
 
 /// The form of a line over tracks and numbers.
@@ -126,73 +152,44 @@ fn put(interner: &mut Interner, form: Node) -> Result<Option<FormulaId>, AllocEr
 }
 
 /// Writes the number of a form.
-fn write_number(
-    alloc: Global,
-    interner: &mut Interner,
-    form: Node,
-    out: &mut String,
-) -> Result<(), AllocError> {
-    let text = match put(interner, form)? {
-        Some(id) => format!(in alloc; " {}", id.0)?,
-        None => String::from_str(alloc, " -")?,
-    };
-    out.push_str(&text)
-}
-
-/// The large formula of that name, of so many levels.
-fn large(alloc: Global, what: &str, count: u32) -> Result<Option<Formula>, AllocError> {
-    match what {
-        "negations" => Ok(Some(negations(alloc, count)?)),
-        "zigzag" => Ok(Some(zigzag(alloc, count)?)),
-        "doubled" => Ok(Some(doubled(alloc, count)?)),
-        _ => Ok(None),
-    }
-}
-
-/// Writes the parts or the form of a number.
-fn write_known(
-    alloc: Global,
-    interner: &Interner,
-    what: &str,
-    id: FormulaId,
-    out: &mut String,
-) -> Result<()> {
-    match what {
-        "parts" => write_parts(alloc, interner, id, out)?,
-        "form" => write_form(alloc, interner, id, out)?,
-        _ => bail!("an unknown form"),
+fn write_put(interner: &mut Interner, form: Node, out: &mut Writer) -> Result<(), AllocError> {
+    match put(interner, form)? {
+        Some(id) => write_number(out, b" ", id.0 as u64),
+        None => out.push_all(b" -"),
     }
     Ok(())
 }
 
-/// The number of a word; 0 where there is none.
-fn number(word: Option<&str>) -> Result<u32> {
-    Ok(word.unwrap_or("0").parse()?)
+/// The large formula of that name, of so many levels.
+fn large(alloc: Global, what: &str, count: u32) -> Result<Formula, AllocError> {
+    match what {
+        "negations" => negations(alloc, count),
+        "zigzag" => zigzag(alloc, count),
+        _ => doubled(alloc, count),
+    }
 }
 
 /// Writes what a line asks for.
-fn write_line(alloc: Global, interner: &mut Interner, line: &str, out: &mut String) -> Result<()> {
-    let mut words = line.split_whitespace();
-    let what = words.next().unwrap_or("");
-    let one = number(words.next())?;
-    let other = number(words.next())?;
-    if let Some(formula) = large(alloc, what, one)? {
-        return Ok(write_formula(alloc, interner, &formula, out)?);
+pub(crate) fn answer_form(
+    alloc: Global,
+    interner: &mut Interner,
+    line: &str,
+    out: &mut Writer,
+) -> Result<(), AllocError> {
+    let what = word_at(line, 0);
+    let one = number_of(word_at(line, 1));
+    match what {
+        "parts" => return write_parts(alloc, interner, FormulaId(one), out),
+        "form" => return write_form(alloc, interner, FormulaId(one), out),
+        "negations" | "zigzag" | "doubled" => {
+            let formula = large(alloc, what, one)?;
+            return write_formula(alloc, interner, &formula, out);
+        }
+        _ => {}
     }
-    if let Some(form) = form_of(what, one, other) {
-        return Ok(write_number(alloc, interner, form, out)?);
-    }
-    write_known(alloc, interner, what, FormulaId(one), out)
-}
-
-/// Writes each line with what it asks for, over one list of numbered formulas.
-pub(crate) fn answer_graph(alloc: Global, text: &str, out: &mut String) -> Result<()> {
-    let mut interner = Interner::new(alloc);
-    for line in text.lines() {
-        out.push_str(line)?;
-        out.push_str(":")?;
-        write_line(alloc, &mut interner, line, out)?;
-        out.push_str("\n")?;
+    match form_of(what, one, number_of(word_at(line, 2))) {
+        Some(form) => write_put(interner, form, out)?,
+        None => write_unknown(out),
     }
     Ok(())
 }

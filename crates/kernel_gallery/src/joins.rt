@@ -6,10 +6,11 @@ ghost use Rattle.bdd_nodes.specs.Shelf.{IsValid, AsksFrom};
 ghost use Rattle.bdd_nodes.specs.Changes.{Keeps};
 ghost use Rattle.bdd_nodes.specs.declared.node_ref.NodeRef.{NodeRef};
 
-use anyhow::{Context, Result};
+use crate::lines::{number_of, write_number};
 use bdd_nodes::{Full, NodeRef, RefList, Shelf};
 use bdd_walk::{LeafRule, StateList, Stop, join, rename, restrict};
 use plain_data::Items;
+use plain_writer::Writer;
 use std::alloc::{AllocError, Global};
 
 /// Answers the digits of the states, as one decimal number.
@@ -63,14 +64,13 @@ fn write_states(
     alloc: Global,
     shelf: &Shelf,
     root: NodeRef,
-    out: &mut String,
+    out: &mut Writer,
 ) -> Result<(), AllocError>
     requires { IsValid shelf.now root }
 {
     for tracks in [&[][..], &[0], &[1], &[1, 0]] {
         let label = Items::from_slice(alloc, tracks)?;
-        let text = format!(in alloc; " {}", shelf.eval(root, &label))?;
-        out.push_str(&text)?;
+        write_number(out, b" ", shelf.eval(root, &label) as u64);
     }
     Ok(())
 }
@@ -127,36 +127,12 @@ fn renamed(alloc: Global, shelf: &mut Shelf) -> Result<NodeRef, Stop>
     rename(alloc, shelf, root, &numbers)
 }
 
-/// What a line asks for.
-#[derive(Clone, Copy)]
-enum Asked {
-    Join(Option<u32>),
-    Fix(u32, bool),
-    Rename,
-}
-
-impl Asked {
-    /// The word in front of a line: `join`, `drop.1`, `set.0`, `unset.0` or `rename`.
-    fn of(word: &str) -> Option<Asked> {
-        let (what, track) = word.split_once('.').unwrap_or((word, "0"));
-        let track = track.parse().ok()?;
-        match what {
-            "join" => Some(Asked::Join(None)),
-            "drop" => Some(Asked::Join(Some(track))),
-            "set" => Some(Asked::Fix(track, true)),
-            "unset" => Some(Asked::Fix(track, false)),
-            "rename" => Some(Asked::Rename),
-            _ => None,
-        }
-    }
-}
-
-/// The function that is asked for.
+/// The function that a word asks for: `join`, `drop.1`, `set.0`, `unset.0`, or else `rename`.
 fn made(
     alloc: Global,
     shelf: &mut Shelf,
     pair: Pair,
-    asked: Asked,
+    word: &str,
     words: &str,
 ) -> Result<NodeRef, Stop>
     requires first { IsValid shelf.old pair.first }
@@ -164,55 +140,64 @@ fn made(
     ensures made { IfOk result (IsValid shelf.new) }
     ensures kept { (r : NodeRef) → IsValid shelf.old r → IsValid shelf.new r }
 {
-    match asked {
-        Asked::Join(dropped) => joined(alloc, shelf, pair, dropped, words),
-        Asked::Fix(track, is_set) => fixed(alloc, shelf, track, is_set),
-        Asked::Rename => renamed(alloc, shelf),
+    let (what, track) = word.split_once('.').unwrap_or((word, ""));
+    let track = number_of(track);
+    match what {
+        "join" => joined(alloc, shelf, pair, None, words),
+        "drop" => joined(alloc, shelf, pair, Some(track), words),
+        "set" => fixed(alloc, shelf, track, true),
+        "unset" => fixed(alloc, shelf, track, false),
+        _ => renamed(alloc, shelf),
     }
 }
 
-/// Writes the states of the function that is asked for, or that the shelf is full.
+/// Writes the states of the function that a line asks for, or that the shelf is full.
 fn write_made(
     alloc: Global,
     shelf: &mut Shelf,
     pair: Pair,
-    asked: Asked,
-    words: &str,
-    out: &mut String,
-) -> Result<()>
+    line: &str,
+    out: &mut Writer,
+) -> Result<(), Stop>
     requires first { IsValid shelf.old pair.first }
     requires second { IsValid shelf.old pair.second }
     ensures { (r : NodeRef) → IsValid shelf.old r → IsValid shelf.new r }
 {
-    match made(alloc, shelf, pair, asked, words) {
+    let (word, words) = line.split_once(' ').unwrap_or((line, ""));
+    match made(alloc, shelf, pair, word, words) {
         Ok(root) => Ok(write_states(alloc, shelf, root, out)?),
-        Err(Stop::Limit) => Ok(out.push_str(" limit")?),
-        Err(stop) => Err(stop.into()),
+        Err(Stop::Limit) => {
+            out.push_all(b" limit");
+            Ok(())
+        }
+        Err(Stop::NoMemory) => Err(Stop::NoMemory),
     }
 }
 
 /// Writes the states of both functions, and how many nodes there are.
-fn write_kept(alloc: Global, shelf: &Shelf, pair: Pair, out: &mut String) -> Result<(), AllocError>
+fn write_kept(alloc: Global, shelf: &Shelf, pair: Pair, out: &mut Writer) -> Result<(), AllocError>
     requires first { IsValid shelf.now pair.first }
     requires second { IsValid shelf.now pair.second }
 {
-    out.push_str(" of")?;
+    out.push_all(b" of");
     write_states(alloc, shelf, pair.first, out)?;
     write_states(alloc, shelf, pair.second, out)?;
-    let text = format!(in alloc; " nodes {}\n", shelf.count())?;
-    out.push_str(&text)
+    write_number(out, b" nodes ", shelf.count() as u64);
+    Ok(())
 }
 
 /// Writes what a line asks for of a shelf of its own with this limit, and what stands there afterwards.
-pub(crate) fn answer_join(alloc: Global, limit: u32, line: &str, out: &mut String) -> Result<()>
+pub(crate) fn answer_join(
+    alloc: Global,
+    limit: u32,
+    line: &str,
+    out: &mut Writer,
+) -> Result<(), Stop>
     requires some { 1 ≤ limit }
     requires small { limit ≤ 16000000 }
 {
-    let (word, words) = line.split_once(' ').unwrap_or((line, ""));
-    let asked = Asked::of(word).context("an unknown word of joins")?;
     let mut shelf = Shelf::open(alloc, limit)?;
     let pair = make_pair(&mut shelf)?;
-    write_made(alloc, &mut shelf, pair, asked, words, out)?;
-    write_kept(alloc, &shelf, pair, out)?;
-    Ok(())
+    write_made(alloc, &mut shelf, pair, line, out)?;
+    Ok(write_kept(alloc, &shelf, pair, out)?)
 }

@@ -104,12 +104,11 @@ pub(crate) fn with(
     literal: Literal,
     shelf: &mut Shelf,
 ) -> Result<Auto, Stop>
-    requires { IsAuto g.now shelf.old a.now }
+    requires shelf { IsShelf shelf.old }
+    requires auto { IsAuto g.now shelf.old a.now }
     ensures auto { IfOk result (IsAuto g.now shelf.new) }
     ensures shelf { IsShelf shelf.new }
 {
-    // Only for its clause `shelf`.
-    let _ = shelf.count();
     let b = automaton(alloc, g, literal, shelf)?;
     product(alloc, g, a, &b, shelf)
 }

@@ -2,8 +2,8 @@
 
 ghost use Rattle.gta_core.specs.Auto.{IsAuto};
 
+use crate::lines::{number_of, write_number, write_truth, write_unknown};
 use crate::trees::write_trees;
-use anyhow::{Context, Result};
 use bdd_list::list_nodes;
 use bdd_nodes::Shelf;
 use bdd_walk::NoMemory;
@@ -11,17 +11,16 @@ use gta_core::Auto;
 use gta_merge::is_told_apart;
 use gta_witness::least;
 use plain_data::Items;
+use plain_writer::Writer;
 use std::alloc::{AllocError, Global};
-use ws2s_core::{Guide, Track, TrackList};
+use ws2s_core::{Guide, LabelTree, Track, TrackList};
 
-/// The number of states of each space, in order.
-fn states(alloc: Global, g: &Guide, a: &Auto) -> Result<String, AllocError> {
-    let mut out = String::new(alloc);
+/// Writes the number of states of each space, in order.
+fn write_states(g: &Guide, a: &Auto, out: &mut Writer) {
+    out.push(b' ');
     for space in 0..g.spaces() {
-        let part = format!(in alloc; "/{}", a.states(space).unwrap_or(0))?;
-        out.push_str(&part)?;
+        write_number(out, b"/", a.states(space).unwrap_or(0) as u64);
     }
-    Ok(out)
 }
 
 /// The Size: pairs of child states and nodes of functions, space by space.
@@ -60,115 +59,62 @@ fn accepts_some(a: &Auto) -> bool {
 }
 
 /// The tracks of a word, with a point in front of each.
-fn tracks_of(alloc: Global, word: &str) -> Result<TrackList> {
+fn tracks_of(alloc: Global, word: &str) -> Result<TrackList, AllocError> {
     let mut tracks = Items::new(alloc);
     for number in word.split('.').skip(1) {
-        tracks.push(Track(number.parse()?))?;
+        tracks.push(Track(number_of(number)))?;
     }
     Ok(tracks)
 }
 
-/// The weight of a lightest tree on the tracks of the word, and how many nodes it has.
-pub(crate) fn lightest(
+/// Writes the weight of a tree and how many nodes it has, or that there is none.
+fn write_tree(found: &Option<(LabelTree, u64)>, out: &mut Writer) {
+    match found {
+        Some((tree, weight)) => {
+            write_number(out, b" ", *weight);
+            write_number(out, b"/", tree.nodes().len() as u64);
+        }
+        None => out.push_all(b" none"),
+    }
+}
+
+/// Writes the weight of a lightest tree on the tracks of the word, and how many nodes it has.
+pub(crate) fn write_lightest(
     alloc: Global,
     g: &Guide,
     a: &Auto,
     shelf: &Shelf,
     word: &str,
-) -> Result<String>
+    out: &mut Writer,
+) -> Result<(), NoMemory>
     requires { IsAuto g.now shelf.now a.now }
 {
     let weigh = tracks_of(alloc, word)?;
-    let text = match least(alloc, g, a, shelf, &weigh)? {
-        None => String::from_str(alloc, "none")?,
-        Some((tree, weight)) => format!(in alloc; "{weight}/{}", tree.nodes().len())?,
-    };
-    Ok(text)
+    write_tree(&least(alloc, g, a, shelf, &weigh)?, out);
+    Ok(())
 }
 
-/// The number that a word asks for: `size`, `nodes` or `cells`.
-fn count(
-    alloc: Global,
-    g: &Guide,
-    a: &Auto,
-    shelf: &Shelf,
-    word: &str,
-) -> Result<Option<usize>, NoMemory>
-    requires { IsAuto g.now shelf.now a.now }
-{
-    match word {
-        "size" => Ok(Some(size(alloc, g, a, shelf)?)),
-        "nodes" => Ok(Some(shelf.count() as usize)),
-        "cells" => Ok(Some(cells(a))),
-        _ => Ok(None),
-    }
-}
-
-/// What a word asks that is so or isn't: `apart` or `accepting`.
-fn answer(
-    alloc: Global,
-    g: &Guide,
-    a: &Auto,
-    shelf: &Shelf,
-    word: &str,
-) -> Result<Option<bool>, NoMemory>
-    requires { IsAuto g.now shelf.now a.now }
-{
-    match word {
-        "apart" => Ok(Some(is_told_apart(alloc, g, a, shelf)?)),
-        "accepting" => Ok(Some(accepts_some(a))),
-        _ => Ok(None),
-    }
-}
-
-/// What is written for a word of one number or answer. `None` for another word.
-fn told(
-    alloc: Global,
-    g: &Guide,
-    a: &Auto,
-    shelf: &Shelf,
-    word: &str,
-) -> Result<Option<String>, NoMemory>
-    requires { IsAuto g.now shelf.now a.now }
-{
-    if let Some(number) = count(alloc, g, a, shelf, word)? {
-        return Ok(Some(format!(in alloc; "{number}")?));
-    }
-    match answer(alloc, g, a, shelf, word)? {
-        Some(is_so) => Ok(Some(format!(in alloc; "{is_so}")?)),
-        None => Ok(None),
-    }
-}
-
-/// The text of a word: `states`, `least.0.1`, or one of those above.
-fn text_of(alloc: Global, g: &Guide, a: &Auto, shelf: &Shelf, word: &str) -> Result<String>
-    requires { IsAuto g.now shelf.now a.now }
-{
-    if word == "states" {
-        return Ok(states(alloc, g, a)?);
-    }
-    if word.starts_with("least") {
-        return lightest(alloc, g, a, shelf, word);
-    }
-    told(alloc, g, a, shelf, word)?.context("an unknown word")
-}
-
-/// Writes what a word asks of an automaton.
+/// Writes what a word asks of an automaton: `states`, `size`, `nodes`, `cells`, `apart`, `accepting`, `trees` or `least.0.1`.
 pub(crate) fn look(
     alloc: Global,
     g: &Guide,
     a: &Auto,
     shelf: &Shelf,
     word: &str,
-    out: &mut String,
-) -> Result<()>
+    out: &mut Writer,
+) -> Result<(), NoMemory>
     requires { IsAuto g.now shelf.now a.now }
 {
-    if word == "trees" {
-        return Ok(write_trees(alloc, a, shelf, out)?);
+    match word {
+        "states" => write_states(g, a, out),
+        "size" => write_number(out, b" ", size(alloc, g, a, shelf)? as u64),
+        "nodes" => write_number(out, b" ", shelf.count() as u64),
+        "cells" => write_number(out, b" ", cells(a) as u64),
+        "apart" => write_truth(out, is_told_apart(alloc, g, a, shelf)?),
+        "accepting" => write_truth(out, accepts_some(a)),
+        "trees" => return write_trees(alloc, a, shelf, out),
+        _ if word.starts_with("least") => return write_lightest(alloc, g, a, shelf, word, out),
+        _ => write_unknown(out),
     }
-    let text = text_of(alloc, g, a, shelf, word)?;
-    out.push_str(" ")?;
-    out.push_str(&text)?;
     Ok(())
 }

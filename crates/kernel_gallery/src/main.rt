@@ -3,7 +3,8 @@
 //!
 //! What stands in front of the first head is a comment. A head is a line `=== NAME OPERATION WORDS`. The text goes from behind
 //! the head up to the newline before the next head, or to the end of the bundle. For each text the head is written, and then
-//! what the operation gives, mostly each line with a colon and an answer. An unknown word ends the run with a status that isn't 0.
+//! what the operation gives, mostly each line with a colon and an answer. An unknown word is
+//! answered by `unknown`.
 //!
 //! - `automata GUIDE LIMIT`: each line makes an automaton in a shelf of its own with room for so many nodes (`guides`). The first
 //!   word is a literal, whose minimal automaton is made (`literals`); each further word is a step to the next automaton (`steps`)
@@ -24,6 +25,7 @@ mod graphs;
 mod grid;
 mod guides;
 mod joins;
+mod lines;
 mod literals;
 mod looks;
 mod steps;

@@ -1,20 +1,22 @@
 //! Lines that make an automaton step by step, and say what it is like.
 
 ghost use Rattle.std.specs.Prelude.{◌≤◌, IfOk, IsSome};
-ghost use Rattle.bdd_nodes.specs.Shelf.{roots_of};
+ghost use Rattle.bdd_nodes.specs.Shelf.{IsShelf, roots_of};
 ghost use Rattle.gta_theory.specs.Guides.{Spaces};
 ghost use Rattle.gta_core.specs.Auto.{IsAuto};
 
+use crate::guides::guide_of;
+use crate::lines::{write_number, write_unknown};
 use crate::literals::{Literal, automaton, with};
 use crate::looks::look;
-use anyhow::{Context, Result};
-use bdd_nodes::{Shelf, unused_numbers};
+use bdd_nodes::Shelf;
 use bdd_walk::Stop;
-use gta_core::{Auto, automata_outlive_changes, release, tables_outlive_changes};
+use gta_core::{Auto, release};
 use gta_merge::merge;
 use gta_minimise::minimise;
 use gta_product::complement;
 use gta_project::project;
+use plain_writer::Writer;
 use std::alloc::Global;
 use ws2s_core::{Guide, Track};
 
@@ -53,14 +55,11 @@ impl Step {
 
 /// A copy of the automaton, which is let go with the nodes that no table holds any more.
 fn moved(alloc: Global, a: Auto, shelf: &mut Shelf) -> Result<Auto, Stop>
-    requires { IsSome (roots_of shelf.old a.table) }
-    ensures { IfOk result (λ copy. (g : Spaces) → IsAuto g shelf.old a → IsAuto g shelf.new copy) }
+    requires shelf { IsShelf shelf.old }
+    requires table { IsSome (roots_of shelf.old a.table) }
+    ensures auto { IfOk result (λ copy. (g : Spaces) → IsAuto g shelf.old a → IsAuto g shelf.new copy) }
+    ensures shelf { IsShelf shelf.new }
 {
-    // Only for their clauses.
-    let _ = shelf.count();
-    tables_outlive_changes();
-    automata_outlive_changes();
-    unused_numbers();
     let copy = a.copy(alloc, shelf)?;
     release(a, shelf);
     shelf.collect();
@@ -69,8 +68,10 @@ fn moved(alloc: Global, a: Auto, shelf: &mut Shelf) -> Result<Auto, Stop>
 
 /// The automaton after a step.
 fn after(alloc: Global, g: &Guide, a: Auto, step: Step, shelf: &mut Shelf) -> Result<Auto, Stop>
-    requires { IsAuto g.now shelf.old a }
-    ensures { IfOk result (IsAuto g.now shelf.new) }
+    requires shelf { IsShelf shelf.old }
+    requires auto { IsAuto g.now shelf.old a }
+    ensures auto { IfOk result (IsAuto g.now shelf.new) }
+    ensures shelf { IsShelf shelf.new }
 {
     match step {
         Step::With(literal) => with(alloc, g, &a, literal, shelf),
@@ -82,29 +83,29 @@ fn after(alloc: Global, g: &Guide, a: Auto, step: Step, shelf: &mut Shelf) -> Re
     }
 }
 
-/// Writes that the shelf is full, and how many nodes it has; other stops are errors.
-fn stopped(alloc: Global, stop: Stop, shelf: &Shelf, out: &mut String) -> Result<()> {
+/// Writes that the shelf is full, and how many nodes it has; want of memory is an error.
+fn stopped(stop: Stop, shelf: &Shelf, out: &mut Writer) -> Result<(), Stop> {
     match stop {
         Stop::Limit => {
-            let text = format!(in alloc; " limit {}", shelf.count())?;
-            out.push_str(&text)?;
+            write_number(out, b" limit ", shelf.count() as u64);
             Ok(())
         }
-        Stop::NoMemory => Err(stop.into()),
+        Stop::NoMemory => Err(Stop::NoMemory),
     }
 }
 
 /// Goes on from an automaton: each further word is a step, or something that is written of the automaton that stands then.
-/// At the end the automaton is let go, and what is left in the shelf is written.
+/// At the end the automaton is let go.
 pub(crate) fn go_on(
     alloc: Global,
     g: &Guide,
     first: Auto,
     words: &str,
     shelf: &mut Shelf,
-    out: &mut String,
-) -> Result<()>
-    requires { IsAuto g.now shelf.old first }
+    out: &mut Writer,
+) -> Result<(), Stop>
+    requires shelf { IsShelf shelf.old }
+    requires auto { IsAuto g.now shelf.old first }
 {
     let mut a = first;
     for word in words.split_whitespace() {
@@ -114,33 +115,47 @@ pub(crate) fn go_on(
         };
         match after(alloc, g, a, step, shelf) {
             Ok(next) => a = next,
-            Err(stop) => return stopped(alloc, stop, shelf, out),
+            Err(stop) => return stopped(stop, shelf, out),
         }
     }
     release(a, shelf);
     Ok(())
 }
 
-/// Writes what a line says in a shelf of its own with this limit.
-pub(crate) fn answer_line(
+/// Writes what a line says of the automaton of its first word, a literal.
+fn go_from(
     alloc: Global,
     g: &Guide,
+    line: &str,
+    shelf: &mut Shelf,
+    out: &mut Writer,
+) -> Result<(), Stop> {
+    let (first, words) = line.split_once(' ').unwrap_or((line, ""));
+    let Some(literal) = Literal::of(first) else {
+        write_unknown(out);
+        return Ok(());
+    };
+    match automaton(alloc, g, literal, shelf) {
+        Ok(a) => go_on(alloc, g, a, words, shelf, out),
+        Err(stop) => stopped(stop, shelf, out),
+    }
+}
+
+/// Writes what a line says over the guide of that name in a shelf of its own with this limit, and how many nodes are left.
+pub(crate) fn answer_literal(
+    alloc: Global,
+    name: &str,
     limit: u32,
     line: &str,
-    out: &mut String,
-) -> Result<()>
+    out: &mut Writer,
+) -> Result<(), Stop>
     requires some { 1 ≤ limit }
     requires small { limit ≤ 16000000 }
 {
+    let g = guide_of(alloc, name)?;
     let mut shelf = Shelf::open(alloc, limit)?;
-    let (first, words) = line.split_once(' ').unwrap_or((line, ""));
-    let literal = Literal::of(first).context("a line begins with a literal")?;
-    match automaton(alloc, g, literal, &mut shelf) {
-        Ok(a) => go_on(alloc, g, a, words, &mut shelf, out)?,
-        Err(stop) => stopped(alloc, stop, &shelf, out)?,
-    }
+    go_from(alloc, &g, line, &mut shelf, out)?;
     shelf.collect();
-    let left = format!(in alloc; " left {}\n", shelf.count())?;
-    out.push_str(&left)?;
+    write_number(out, b" left ", shelf.count() as u64);
     Ok(())
 }

@@ -8,12 +8,13 @@ ghost use Rattle.gta_core.specs.Auto.{guide_of, IsAuto};
 ghost use Rattle.ws2s_core.specs.LabelTrees.{IsTree};
 ghost use Rattle.ws2s_theory.specs.Trees.{last_place, moved_on, under_root};
 
+use crate::lines::write_number;
 use bdd_nodes::Shelf;
 use gta_core::{Auto, accepts};
 use plain_data::Items;
+use plain_writer::Writer;
 use std::alloc::{AllocError, Global};
 use ws2s_core::{LabelTree, Track, TrackList, TreeNode, TreeNodeList};
-use ws2s_theory::trees_are_joined;
 
 /// How many nodes the left child of a root has, and the numbers of both children's trees.
 #[derive(Clone, Copy)]
@@ -66,8 +67,6 @@ fn tree_of(alloc: Global, size: u32, number: u32) -> Result<TreeNodeList, AllocE
     ensures tree { IfOk result IsTree }
     ensures size { IfOk result (λ nodes. length nodes ≡ size) }
 {
-    // Only for its clause `tree`.
-    trees_are_joined();
     if size == 0 {
         return Ok(Items::new(alloc));
     }
@@ -75,7 +74,9 @@ fn tree_of(alloc: Global, size: u32, number: u32) -> Result<TreeNodeList, AllocE
     let sides = sides_of(rest, number / 4);
     let left = tree_of(alloc, sides.size, sides.left)?;
     let right = tree_of(alloc, rest - sides.size, sides.right)?;
-    joined(alloc, tracks(alloc, number)?, left, right.as_slice())
+    let tracks = tracks(alloc, number)?;
+    let nodes = joined(alloc, tracks, left, right.as_slice())?;
+    Ok(nodes)
 }
 
 /// The tracks of the label of this number.
@@ -167,14 +168,14 @@ pub(crate) fn write_trees(
     alloc: Global,
     a: &Auto,
     shelf: &Shelf,
-    out: &mut String,
+    out: &mut Writer,
 ) -> Result<(), AllocError>
     requires { IsAuto (guide_of a.now) shelf.now a.now }
 {
     for size in 0..5 {
         let (many, sum) = accepted(alloc, a, shelf, size)?;
-        let text = format!(in alloc; " {many}:{sum}")?;
-        out.push_str(&text)?;
+        write_number(out, b" ", many as u64);
+        write_number(out, b":", sum as u64);
     }
     Ok(())
 }

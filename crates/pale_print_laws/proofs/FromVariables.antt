@@ -128,10 +128,10 @@ unfolding rows_of
 local_sound = or_row local_row no_row
 
 -- the variables that a body declares
-record LocalsMade (start end : List Token) : Type 0 where
-  parameters : List Parameter
-  free : All IsFreeParameter parameters
-  short : each_size local_size parameters + length end ≤ length start
+pub record LocalsMade (start end : List Token) : Type 0 where
+  pub parameters : List Parameter
+  pub free : All IsFreeParameter parameters
+  pub short : each_size local_size parameters + length end ≤ length start
 
 pub locals_made : (room : ℕ) (start end : List Token) (several : Several program_meaning part.Local room start end) (ps : List Parameter) →
     All IsFreeParameter ps →

@@ -1,6 +1,11 @@
-//! Tests of the places where triples can fail and of their formulas, from the text of a program. The crate has nothing else.
+//! Tests of what texts have below what `pale` writes for them: in which column a procedure ends, typed trees, the places where
+//! triples can fail, and their formulas. The crate has nothing else.
+//!
+//! What a text shows by its answer stands in `crates/pale_gallery/texts/`, which takes no proof of a test.
 #![tactic(auto)]
 
+#[cfg(test)]
+mod places;
 #[cfg(test)]
 mod programs;
 #[cfg(test)]
@@ -9,3 +14,5 @@ mod spelled;
 mod spellings;
 #[cfg(test)]
 mod telling;
+#[cfg(test)]
+mod typed;

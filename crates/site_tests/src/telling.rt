@@ -3,16 +3,16 @@
 ghost use Rattle.std.specs.Prelude.{◌<◌, length};
 ghost use Rattle.pale_typed.specs.Fitting.{ProgramFits};
 
-use crate::spelled::push_formula;
+use crate::spelled::{push_formula, push_number};
 use hoare_triples::split;
 use pale_parse::parse;
 use pale_text::{TextStop, lex};
 use pale_typed::Typed;
 use pale_types::check_types;
+use plain_writer::Writer;
 use pred_transform::triple_formula;
 use site_list::{SiteList, sites};
 use std::alloc::{AllocError, Global};
-use std::fmt::Write;
 use store_exec::{Cause, Triple};
 use tree_encode::{Layout, VariantList};
 use ws2s_core::Formula;
@@ -44,31 +44,33 @@ fn word(cause: Cause) -> &'static str {
     }
 }
 
-fn push_places(out: &mut String, sites: &SiteList) -> Result<(), AllocError> {
+fn push_places(out: &mut Writer, sites: &SiteList) {
     let mut line = 0;
     for site in sites.as_slice() {
         if site.line != line {
             line = site.line;
-            write!(out, " {line}:")?;
+            push_number(out, b" ", line);
+            out.push(b':');
         }
-        out.push_str(" ")?;
-        out.push_str(word(site.cause))?;
+        out.push(b' ');
+        out.push_all(word(site.cause).as_bytes());
     }
-    Ok(())
 }
 
-fn push_told(out: &mut String, told: Told, formula: &Formula) -> Result<(), AllocError> {
-    out.push_str(" ")?;
+fn push_told(out: &mut Writer, told: Told, formula: &Formula) {
     match told {
-        Told::Size => write!(out, "{}", formula.size()),
-        Told::Place | Told::Formula => push_formula(out, formula),
+        Told::Size => push_number(out, b" ", formula.size() as u32),
+        Told::Place | Told::Formula => {
+            out.push(b' ');
+            push_formula(out, formula);
+        }
     }
 }
 
 /// The formulas of all sites, up to the first number that no site has.
 fn push_formulas(
     alloc: Global,
-    out: &mut String,
+    out: &mut Writer,
     told: Told,
     l: &Layout<'_>,
     t: &Triple,
@@ -77,7 +79,7 @@ fn push_formulas(
         let Some(formula) = triple_formula(alloc, l, t, site)? else {
             return Ok(());
         };
-        push_told(out, told, &formula)?;
+        push_told(out, told, &formula);
     }
     Ok(())
 }
@@ -85,7 +87,7 @@ fn push_formulas(
 /// No slots are spared for cells that the code makes: no formula depends on that.
 fn push_triple(
     alloc: Global,
-    out: &mut String,
+    out: &mut Writer,
     told: Told,
     typed: &Typed,
     t: &Triple,
@@ -98,43 +100,44 @@ fn push_triple(
     let spares = VariantList::new(alloc);
     let l = Layout::new(alloc, typed.types(), vars, &spares)?;
     match told {
-        Told::Place => push_places(out, &sites(alloc, &l, t)?)?,
+        Told::Place => push_places(out, &sites(alloc, &l, t)?),
         Told::Size | Told::Formula => push_formulas(alloc, out, told, &l, t)?,
     }
-    out.push_str(";")
+    out.push(b';');
+    Ok(())
 }
 
 /// What is told of the sites of each triple of a text.
-fn told_of(alloc: Global, text: &[u8], told: Told) -> Result<String, TextStop>
+fn told_of(alloc: Global, text: &[u8], told: Told) -> Result<Vec<u8>, TextStop>
     requires { length text.now < u32.MAX }
 {
     let list = lex(alloc, text)?;
     let program = parse(alloc, &list)?;
     let typed = check_types(alloc, &program)?;
     let triples = split(alloc, &typed)?;
-    let mut out = String::new(alloc);
+    let mut out = Writer::new(alloc);
     for t in triples.as_slice() {
         push_triple(alloc, &mut out, told, &typed, t)?;
     }
-    Ok(out)
+    Ok(out.finish()?)
 }
 
-fn is_told(alloc: Global, text: &[u8], told: Told, want: &str) -> Result<bool, TextStop> {
+fn is_told(alloc: Global, text: &[u8], told: Told, want: &[u8]) -> Result<bool, TextStop> {
     if text.len() >= u32::MAX as usize {
         return Ok(false);
     }
     let out = told_of(alloc, text, told)?;
-    Ok(out.as_str() == want)
+    Ok(out.as_slice() == want)
 }
 
 /// Whether the text's triples have these sites.
 pub(crate) fn are_sites_told(alloc: Global, text: &[u8], want: &str) -> Result<bool, TextStop> {
-    is_told(alloc, text, Told::Place, want)
+    is_told(alloc, text, Told::Place, want.as_bytes())
 }
 
 /// Whether the formulas of the sites have these sizes.
 pub(crate) fn are_sizes_told(alloc: Global, text: &[u8], want: &str) -> Result<bool, TextStop> {
-    is_told(alloc, text, Told::Size, want)
+    is_told(alloc, text, Told::Size, want.as_bytes())
 }
 
 /// Whether the formulas of the sites of a text's only triple are each `start` and then one of `rests`.
@@ -144,10 +147,14 @@ pub(crate) fn are_formulas_told(
     start: &str,
     rests: &[&str],
 ) -> Result<bool, TextStop> {
-    let mut want = String::new(alloc);
+    let mut want = Writer::new(alloc);
     for rest in rests {
-        write!(want, " & {start} {rest}")?;
+        want.push_all(b" & ");
+        want.push_all(start.as_bytes());
+        want.push(b' ');
+        want.push_all(rest.as_bytes());
     }
-    want.push_str(";")?;
-    is_told(alloc, text, Told::Formula, want.as_str())
+    want.push(b';');
+    let want = want.finish()?;
+    is_told(alloc, text, Told::Formula, &want)
 }

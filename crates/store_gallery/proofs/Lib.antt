@@ -1,1 +1,1 @@
-mod RouteLemmas
+pub mod KnownLemmas

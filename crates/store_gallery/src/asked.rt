@@ -1,9 +1,7 @@
-//! The formula that a line asks for.
+//! The formula that a line asks for, behind its `?`.
 
-use crate::routes::route_of;
-use crate::tables::type_named;
-use crate::views::{field, number, sym, variant, word};
-use anyhow::{Result, bail};
+use crate::lines::{Stop, field_at, number_at, sym_at, variant_at, word_at};
+use crate::programs::{program_of, route_in, walking};
 use graph_cells::{has, is_dead, is_live, is_null};
 use graph_routes::{
     bool_formula, field_formula, live_formula, step_formula, variant_formula, walk_formula,
@@ -11,203 +9,111 @@ use graph_routes::{
 use graph_type::{closes, cut_formula};
 use graph_view::{CutCheck, View};
 use std::alloc::{AllocError, Global};
-use std::str::SplitWhitespace;
-use store_core::{FieldId, TypeId, TypeTable, VariantId};
+use store_core::FieldId;
 use tree_encode::Layout;
 use tree_formula::well_encoded;
 use ws2s_core::{Formula, Track};
 
-/// The tracks that a formula is about.
-#[derive(Clone, Copy)]
-pub(crate) enum About {
-    /// None but those that have sets.
-    Nothing,
-    /// A track of one position.
-    One(u32),
-    /// Two tracks of one position each.
-    Two(u32, u32),
-    /// Tracks 0 and 1, with sets.
-    Sets,
-}
-
-/// A formula, and what it is about.
-#[derive(Drop)]
-pub(crate) struct Asked {
-    pub(crate) formula: Formula,
-    pub(crate) about: About,
-}
-
-fn check_of(word: &str) -> Result<CutCheck> {
+/// What a cut is looked at for: `dangling`, `shared`, `leak` or `field`.
+fn check_of(word: &str) -> Option<CutCheck> {
     match word {
-        "dangling" => Ok(CutCheck::DanglingRef),
-        "shared" => Ok(CutCheck::Shared),
-        "leak" => Ok(CutCheck::Leak),
-        "field" => Ok(CutCheck::Field),
-        _ => bail!("an unknown check"),
+        "dangling" => Some(CutCheck::DanglingRef),
+        "shared" => Some(CutCheck::Shared),
+        "leak" => Some(CutCheck::Leak),
+        "field" => Some(CutCheck::Field),
+        _ => None,
     }
 }
 
-/// What is said of one position.
-#[derive(Clone, Copy)]
-enum Subject {
-    /// It is a live cell.
-    Live,
-    /// It is one of the type.
-    Type(TypeId),
-    /// It is one of the variant.
-    Variant(VariantId),
-    /// It is one that has the field.
-    Has(FieldId),
-    /// Its field is true.
-    True(FieldId),
-}
-
-impl Subject {
-    /// What a word says: `live`, `type`, `variant`, `has` or `true`.
-    fn of(
-        types: &TypeTable,
-        what: &str,
-        words: &mut SplitWhitespace<'_>,
-    ) -> Result<Option<Subject>> {
-        let subject = match what {
-            "live" => Subject::Live,
-            "type" => Subject::Type(type_named(types, word(words))?),
-            "variant" => Subject::Variant(variant(types, words)?),
-            "has" => Subject::Has(field(types, words)?),
-            "true" => Subject::True(field(types, words)?),
-            _ => return Ok(None),
-        };
-        Ok(Some(subject))
-    }
-
-    /// The formula that the position on the track is so.
-    fn formula(
-        self,
-        alloc: Global,
-        l: &Layout<'_>,
-        view: &View,
-        a: u32,
-        next: u32,
-    ) -> Result<Formula, AllocError> {
-        match self {
-            Subject::Live => is_live(alloc, l, view, next, a),
-            Subject::Type(ty) => live_formula(alloc, l, view, ty, Track(a), next),
-            Subject::Variant(v) => variant_formula(alloc, l, view, v, Track(a), next),
-            Subject::Has(f) => has(alloc, l, view, next, f, a),
-            Subject::True(f) => bool_formula(alloc, l, view, f, Track(a), next),
+/// `true FIELD A NEXT`, `has FIELD A NEXT`, `step FIELD A B NEXT`, or `field FIELD` whatever the view is.
+fn of_field(
+    alloc: Global,
+    l: &Layout<'_>,
+    view: &View,
+    field: FieldId,
+    line: &str,
+) -> Result<Formula, AllocError> {
+    let cell = number_at(line, 3);
+    let other = number_at(line, 4);
+    match word_at(line, 1) {
+        "true" => bool_formula(alloc, l, view, field, Track(cell), other),
+        "has" => has(alloc, l, view, other, field, cell),
+        "step" => {
+            let next = number_at(line, 5);
+            step_formula(alloc, l, view, field, Track(cell), Track(other), next)
         }
+        _ => field_formula(alloc, l, field),
     }
-}
-
-/// The formula of one position, behind its word: its track, and the next one.
-fn of_one(
-    alloc: Global,
-    l: &Layout<'_>,
-    view: &View,
-    subject: Subject,
-    words: &mut SplitWhitespace<'_>,
-) -> Result<Asked> {
-    let a = number(words)?;
-    let next = number(words)?;
-    Ok(Asked {
-        formula: subject.formula(alloc, l, view, a, next)?,
-        about: About::One(a),
-    })
-}
-
-/// `step FIELD A B NEXT`, from one position to another.
-fn step(
-    alloc: Global,
-    l: &Layout<'_>,
-    view: &View,
-    words: &mut SplitWhitespace<'_>,
-) -> Result<Asked> {
-    let f = field(l.types(), words)?;
-    let a = number(words)?;
-    let b = number(words)?;
-    let next = number(words)?;
-    Ok(Asked {
-        formula: step_formula(alloc, l, view, f, Track(a), Track(b), next)?,
-        about: About::Two(a, b),
-    })
 }
 
 /// `walk ROUTE data A B NEXT` or, over pointer fields too, `walk ROUTE all A B NEXT`.
 fn walk(
     alloc: Global,
     l: &Layout<'_>,
+    program: &str,
     view: &View,
-    words: &mut SplitWhitespace<'_>,
-) -> Result<Asked> {
-    let route = route_of(alloc, l.types(), word(words))?;
-    let pointers = word(words) == "all";
-    let a = number(words)?;
-    let b = number(words)?;
-    let next = number(words)?;
-    Ok(Asked {
-        formula: walk_formula(alloc, l, view, &route, pointers, Track(a), Track(b), next)?,
-        about: About::Two(a, b),
-    })
+    line: &str,
+) -> Result<Formula, Stop> {
+    let text = walking(alloc, l.types(), program, word_at(line, 2))?;
+    let typed = program_of(alloc, &text)?;
+    let route = route_in(&typed).ok_or(Stop)?;
+    let from = Track(number_at(line, 4));
+    let to = Track(number_at(line, 5));
+    let pointers = word_at(line, 3) == "all";
+    Ok(walk_formula(
+        alloc,
+        l,
+        view,
+        route,
+        pointers,
+        from,
+        to,
+        number_at(line, 6),
+    )?)
 }
 
-/// `closed SET VALUE NEXT`: the set has the value and what data fields reach from it.
-fn closing(
-    alloc: Global,
-    l: &Layout<'_>,
-    view: &View,
-    words: &mut SplitWhitespace<'_>,
-) -> Result<Formula> {
-    let set = number(words)?;
-    let value = sym(words)?;
-    let next = number(words)?;
-    Ok(closes(alloc, l, view, next, &[value], set)?)
-}
-
-/// `null VALUE` or `dead VALUE`, of which only the latter looks at cells.
-fn of_value(
-    alloc: Global,
-    l: &Layout<'_>,
-    view: &View,
-    is_dead_cell: bool,
-    words: &mut SplitWhitespace<'_>,
-) -> Result<Formula> {
-    let value = sym(words)?;
-    if is_dead_cell {
-        return Ok(is_dead(alloc, l, view, view.next, value)?);
-    }
-    Ok(is_null(alloc, view.next, value)?)
-}
-
-/// A formula of no position: `null VALUE`, `dead VALUE`, `cut CHECK` or `field FIELD`.
-fn of_none(
-    alloc: Global,
-    l: &Layout<'_>,
-    view: &View,
-    what: &str,
-    words: &mut SplitWhitespace<'_>,
-) -> Result<Formula> {
-    match what {
-        "null" => of_value(alloc, l, view, false, words),
-        "dead" => of_value(alloc, l, view, true, words),
-        "cut" => Ok(cut_formula(alloc, l, view, check_of(word(words))?)?),
-        "field" => Ok(field_formula(alloc, l, field(l.types(), words)?)?),
-        _ => bail!("an unknown formula"),
-    }
-}
-
-/// The formula of a line.
-pub(crate) fn asked_by(alloc: Global, l: &Layout<'_>, view: &View, line: &str) -> Result<Asked> {
-    let mut words = line.split_whitespace();
-    let what = word(&mut words);
-    if let Some(subject) = Subject::of(l.types(), what, &mut words)? {
-        return of_one(alloc, l, view, subject, &mut words);
-    }
-    let (formula, about) = match what {
-        "step" => return step(alloc, l, view, &mut words),
-        "walk" => return walk(alloc, l, view, &mut words),
-        "trees" => (well_encoded(alloc, l)?, About::Sets),
-        "closed" => (closing(alloc, l, view, &mut words)?, About::Nothing),
-        _ => (of_none(alloc, l, view, what, &mut words)?, About::Nothing),
+/// `live A NEXT`, `null VALUE`, `dead VALUE`, `trees`, or `closed SET VALUE NEXT`: the set has the value and what data fields
+/// reach from it.
+fn of_values(alloc: Global, l: &Layout<'_>, view: &View, line: &str) -> Result<Formula, Stop> {
+    let set = number_at(line, 2);
+    let made = match word_at(line, 1) {
+        "live" => is_live(alloc, l, view, number_at(line, 3), set),
+        "null" => is_null(alloc, view.next, sym_at(line, 2)),
+        "dead" => is_dead(alloc, l, view, view.next, sym_at(line, 2)),
+        "trees" => well_encoded(alloc, l),
+        "closed" => closes(alloc, l, view, number_at(line, 4), &[sym_at(line, 3)], set),
+        _ => return Err(Stop),
     };
-    Ok(Asked { formula, about })
+    Ok(made?)
+}
+
+/// The formula of a line: `type TYPE A NEXT`, `variant VARIANT A NEXT`, `cut CHECK`, or one of those above.
+pub(crate) fn formula_of(
+    alloc: Global,
+    l: &Layout<'_>,
+    program: &str,
+    view: &View,
+    line: &str,
+) -> Result<Formula, Stop> {
+    let word = word_at(line, 2);
+    let cell = Track(number_at(line, 3));
+    let next = number_at(line, 4);
+    let made = match word_at(line, 1) {
+        "true" | "has" | "step" | "field" => {
+            let field = field_at(l.types(), line, 2).ok_or(Stop)?;
+            of_field(alloc, l, view, field, line)
+        }
+        "type" => {
+            let ty = l.types().find_type(word.as_bytes()).ok_or(Stop)?;
+            live_formula(alloc, l, view, ty, cell, next)
+        }
+        "variant" => {
+            let variant = variant_at(l.types(), line, 2).ok_or(Stop)?;
+            variant_formula(alloc, l, view, variant, cell, next)
+        }
+        "cut" => cut_formula(alloc, l, view, check_of(word).ok_or(Stop)?),
+        "walk" => return walk(alloc, l, program, view, line),
+        _ => return of_values(alloc, l, view, line),
+    };
+    Ok(made?)
 }

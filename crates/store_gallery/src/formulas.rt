@@ -1,179 +1,138 @@
 //! Formulas after heap events, written out or tried on a few positions.
 
-ghost use Rattle.store_gallery.specs.Known.{KnowsVars};
-
-use crate::asked::{About, Asked, asked_by};
-use crate::places::{at_place, holds, put};
-use crate::spelling::spelled;
-use crate::tables::{types_of, vars_of};
-use crate::views::{Scene, look_at, no_view};
-use anyhow::Result;
+use crate::asked::formula_of;
+use crate::lines::{Stop, number_at, word_at};
+use crate::places::{Set, at_place, holds, put};
+use crate::spelling::{push_number, spell};
+use crate::views::{mark_all, places_of, view_of};
 use graph_view::View;
-use std::alloc::{AllocError, Global};
-use store_core::{TypeTable, VarTable};
-use tree_encode::{Layout, VariantList};
+use plain_writer::Writer;
+use std::alloc::Global;
+use tree_encode::Layout;
 use ws2s_core::{Formula, Track};
 
-/// What stands between the tables, the scene and each view.
-const VIEW: &str = "\nview\n";
-
-/// What stands in front of a formula.
-const ASK: &str = "? ";
+/// So many tracks have sets.
+const TRACKS: usize = 40;
 
 /// Writes whether the formula holds of the sets.
-fn write_sign(f: &Formula, scene: &mut Scene, out: &mut String) -> Result<(), AllocError> {
-    let places = scene.places.as_slice();
-    let sign = if holds(f, places, &mut scene.sets) {
-        "+"
-    } else {
-        "-"
-    };
-    out.push_str(sign)
+fn write_sign(out: &mut Writer, f: &Formula, places: &[u32], sets: &mut [Set]) {
+    out.push(if holds(f, places, sets) { b'+' } else { b'-' });
 }
 
 /// Writes of each position in turn whether the formula holds with it on the track.
-fn write_row(f: &Formula, a: u32, scene: &mut Scene, out: &mut String) -> Result<(), AllocError> {
-    let count = (scene.places.len() % 32) as u32;
-    out.push_str(" ")?;
+fn write_row(out: &mut Writer, f: &Formula, a: u32, places: &[u32], sets: &mut [Set]) {
+    let count = (places.len() % 32) as u32;
+    out.push(b' ');
     for place in 0..count {
-        put(&mut scene.sets, Track(a), at_place(place));
-        write_sign(f, scene, out)?;
+        put(sets, Track(a), at_place(place));
+        write_sign(out, f, places, sets);
     }
-    Ok(())
 }
 
 /// Writes such a row for each position on another track.
-fn write_rows(
-    f: &Formula,
-    a: u32,
-    b: u32,
-    scene: &mut Scene,
-    out: &mut String,
-) -> Result<(), AllocError> {
-    let count = (scene.places.len() % 32) as u32;
+fn write_rows(out: &mut Writer, f: &Formula, a: u32, b: u32, places: &[u32], sets: &mut [Set]) {
+    let count = (places.len() % 32) as u32;
     for place in 0..count {
-        put(&mut scene.sets, Track(a), at_place(place));
-        write_row(f, b, scene, out)?;
+        put(sets, Track(a), at_place(place));
+        write_row(out, f, b, places, sets);
     }
-    Ok(())
 }
 
 /// Writes of how many pairs of sets for tracks 0 and 1 the formula holds.
-fn write_count(
-    alloc: Global,
-    f: &Formula,
-    scene: &mut Scene,
-    out: &mut String,
-) -> Result<(), AllocError> {
-    let many = at_place((scene.places.len() % 16) as u32);
-    let places = scene.places.as_slice();
+fn write_count(out: &mut Writer, f: &Formula, places: &[u32], sets: &mut [Set]) {
+    let many = at_place((places.len() % 16) as u32);
     let mut count: u32 = 0;
     for zero in 0..many {
-        put(&mut scene.sets, Track(0), zero);
+        put(sets, Track(0), zero);
         for one in 0..many {
-            put(&mut scene.sets, Track(1), one);
-            if holds(f, places, &mut scene.sets) {
-                count = count.wrapping_add(1);
-            }
+            put(sets, Track(1), one);
+            count = count.wrapping_add(holds(f, places, sets) as u32);
         }
     }
-    let text = format!(in alloc; " {count}")?;
-    out.push_str(&text)
+    push_number(out, count);
 }
 
-/// Writes the formula, or where there are positions whether it holds there.
-fn write_asked(
-    alloc: Global,
-    asked: &Asked,
-    scene: &mut Scene,
-    out: &mut String,
-) -> Result<(), AllocError> {
-    if scene.places.is_empty() {
-        out.push_str(" ")?;
-        return out.push_str(&spelled(alloc, &asked.formula)?);
-    }
-    match asked.about {
-        About::Nothing => {
-            out.push_str(" ")?;
-            write_sign(&asked.formula, scene, out)
+/// Writes where the formula of a line holds: at each position on its track, at each two on its two tracks, or at all.
+fn write_held(out: &mut Writer, f: &Formula, line: &str, places: &[u32], sets: &mut [Set]) {
+    match word_at(line, 1) {
+        "live" => write_row(out, f, number_at(line, 2), places, sets),
+        "type" | "variant" | "true" | "has" => write_row(out, f, number_at(line, 3), places, sets),
+        "step" => write_rows(out, f, number_at(line, 3), number_at(line, 4), places, sets),
+        "walk" => write_rows(out, f, number_at(line, 4), number_at(line, 5), places, sets),
+        "trees" => {
+            out.push(b' ');
+            write_count(out, f, places, sets);
         }
-        About::One(a) => write_row(&asked.formula, a, scene, out),
-        About::Two(a, b) => write_rows(&asked.formula, a, b, scene, out),
-        About::Sets => write_count(alloc, &asked.formula, scene, out),
+        _ => {
+            out.push(b' ');
+            write_sign(out, f, places, sets);
+        }
     }
+}
+
+/// Writes a question and the formula that it asks for, or where there are positions where that holds.
+fn write_asked(out: &mut Writer, f: &Formula, line: &str, places: &[u32], sets: &mut [Set]) {
+    out.push_all(line.strip_prefix("? ").unwrap_or(line).as_bytes());
+    out.push(b':');
+    if places.is_empty() {
+        out.push(b' ');
+        spell(out, f);
+    } else {
+        write_held(out, f, line, places, sets);
+    }
+    out.push(b'\n');
 }
 
 /// Writes what each line asks for that begins with `? `.
 fn write_all_asked(
     alloc: Global,
     l: &Layout<'_>,
+    program: &str,
     view: &View,
-    scene: &mut Scene,
     text: &str,
-    out: &mut String,
-) -> Result<()> {
+    places: &[u32],
+    sets: &mut [Set],
+    out: &mut Writer,
+) -> Result<(), Stop> {
     for line in text.lines() {
-        if let Some(ask) = line.strip_prefix(ASK) {
-            out.push_str(ask)?;
-            out.push_str(":")?;
-            write_asked(alloc, &asked_by(alloc, l, view, ask)?, scene, out)?;
-            out.push_str("\n")?;
+        if line.starts_with("? ") {
+            let formula = formula_of(alloc, l, program, view, line)?;
+            write_asked(out, &formula, line, places, sets);
         }
     }
     Ok(())
 }
 
-/// The view of lines.
-fn view_of(alloc: Global, types: &TypeTable, text: &str) -> Result<View> {
-    let mut view = no_view(alloc);
-    for line in text.lines() {
-        if !line.starts_with(ASK) {
-            look_at(types, &mut view, line)?;
-        }
-    }
-    Ok(view)
-}
-
-/// The positions and sets of lines.
-fn scene_of(alloc: Global, text: &str) -> Result<Scene> {
-    let mut scene = Scene::new(alloc);
-    for line in text.lines() {
-        if let Some(places) = line.strip_prefix("places ") {
-            scene.add_places(places)?;
-        } else if let Some(marks) = line.strip_prefix("mark ") {
-            scene.mark(marks)?;
-        }
-    }
-    Ok(scene)
-}
-
-/// Writes what each view gives: its own formulas, and those that stand with the scene.
-fn write_views(
+/// Writes what a view gives: its own formulas, and those that stand with the scene.
+fn write_view(
     alloc: Global,
-    types: &TypeTable,
-    vars: &VarTable,
-    scene_text: &str,
-    views: &str,
-    out: &mut String,
-) -> Result<()>
-    requires { KnowsVars types.now vars.now }
-{
-    let layout = Layout::new(alloc, types, vars, &VariantList::new(alloc))?;
-    for text in views.split(VIEW) {
-        let view = view_of(alloc, types, text)?;
-        let mut scene = scene_of(alloc, scene_text)?;
-        out.push_str("view\n")?;
-        write_all_asked(alloc, &layout, &view, &mut scene, text, out)?;
-        write_all_asked(alloc, &layout, &view, &mut scene, scene_text, out)?;
-    }
-    Ok(())
+    l: &Layout<'_>,
+    program: &str,
+    scene: &str,
+    text: &str,
+    places: &[u32],
+    out: &mut Writer,
+) -> Result<(), Stop> {
+    let view = view_of(alloc, l, text)?;
+    let mut sets = [0; TRACKS];
+    mark_all(places, scene, &mut sets);
+    out.push_all(b"view\n");
+    write_all_asked(alloc, l, program, &view, text, places, &mut sets, out)?;
+    write_all_asked(alloc, l, program, &view, scene, places, &mut sets, out)
 }
 
-/// Writes what the lines of tables, of a scene and of views ask for.
-pub(crate) fn answer_formulas(alloc: Global, text: &str, out: &mut String) -> Result<()> {
-    let (tables, rest) = text.split_once("\nscene").unwrap_or((text, ""));
-    let (scene, views) = rest.split_once(VIEW).unwrap_or((rest, ""));
-    let types = types_of(alloc, tables)?;
-    let vars = vars_of(alloc, &types, tables)?;
-    write_views(alloc, &types, &vars, scene, views, out)
+/// Writes what a scene and the views behind it ask for.
+pub(crate) fn write_views(
+    alloc: Global,
+    l: &Layout<'_>,
+    program: &str,
+    rest: &str,
+    out: &mut Writer,
+) -> Result<(), Stop> {
+    let (scene, views) = rest.split_once("\n\n").unwrap_or((rest, ""));
+    let places = places_of(alloc, scene)?;
+    for text in views.split("\n\n") {
+        write_view(alloc, l, program, scene, text, places.as_slice(), out)?;
+    }
+    Ok(())
 }

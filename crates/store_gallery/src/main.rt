@@ -5,21 +5,25 @@
 //! the head up to the newline before the next head, or to the end of the bundle. For each text the head is written, and then
 //! what the operation gives. An unknown word ends the run with a status that isn't 0.
 //!
-//! - `stores`, or `stores spare` with a spare slot: lines of tables, and behind each line `store` the further lines of a store.
-//!   Written are the numbers of the layout, its guide, and for each store its tree and the store that is read off it.
-//! - `formulas`: lines of tables, a line `scene` with what stands there, and views, each behind a line `view`. A line that begins
-//!   with `? ` asks for a formula after the events of the view, and one in the scene of each view. Where the scene has positions,
-//!   it is written where the formula holds of them, and else how it is spelled.
+//! A text is sections with an empty line between them. The first one is a program: its types and the variables of its first
+//! procedure are those of a layout.
+//!
+//! - `stores`, or `stores spare` with a spare slot: the further sections are stores. Written are the numbers of the layout, its
+//!   guide, and for each store its tree and the store that is read off it.
+//! - `formulas`: the second section is a scene, and the further ones are views. A line that begins with `? ` asks for a formula
+//!   after the events of the view, and one in the scene of each view. Where the scene has positions, it is written where the
+//!   formula holds of them, and else how it is spelled.
 #![tactic(auto)]
 
 mod asked;
 mod bundle;
 mod formulas;
+mod layouts;
+mod lines;
 mod places;
-mod routes;
+mod programs;
 mod spelling;
 mod stores;
-mod tables;
 mod views;
 
 use crate::bundle::show_texts;

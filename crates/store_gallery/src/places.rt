@@ -27,11 +27,23 @@ pub(crate) fn put(sets: &mut [Set], t: Track, set: Set) -> Set {
 
 /// The set of the position at this place alone.
 pub(crate) fn at_place(place: u32) -> Set {
-    1u32.checked_shl(place).unwrap_or(0)
+    if place < 32 { 1 << place } else { 0 }
+}
+
+/// The set of the position with this number; it is empty where the list doesn't have it.
+pub(crate) fn set_at(places: &[u32], number: u32) -> Set {
+    let mut place = 0u32;
+    for other in places {
+        if *other == number {
+            return at_place(place);
+        }
+        place = place.wrapping_add(1);
+    }
+    0
 }
 
 /// The only position of the set. Positions have numbers: the root has 1, and the children of n are 2n and 2n + 1.
-pub(crate) fn only(places: &[u32], set: Set) -> Option<u32> {
+fn only(places: &[u32], set: Set) -> Option<u32> {
     if set.count_ones() == 1 {
         places.get(set.trailing_zeros() as usize).copied()
     } else {

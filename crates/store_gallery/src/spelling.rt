@@ -1,53 +1,76 @@
-//! Formulas as texts, an operator before its arguments.
+//! Numbers and formulas as texts, a formula with an operator before its arguments.
 
-use std::alloc::{AllocError, Global};
-use ws2s_core::{Formula, Symbol, symbols_of};
+use plain_writer::Writer;
+use ws2s_core::{Formula, Track};
 
-/// The last of the texts, which is taken off; nothing where there is none.
-fn take(alloc: Global, made: &mut Vec<String>) -> String {
-    match made.pop() {
-        Some(text) => text,
-        None => String::new(alloc),
-    }
-}
+/// What the digits of a `u32` stand for.
+const UNITS: [u32; 10] = [
+    1_000_000_000,
+    100_000_000,
+    10_000_000,
+    1_000_000,
+    100_000,
+    10_000,
+    1_000,
+    100,
+    10,
+    1,
+];
 
-/// What is spelled of the symbol, where the texts of its parts stand last.
-fn spelled_at(alloc: Global, made: &mut Vec<String>, symbol: Symbol) -> Result<String, AllocError> {
-    match symbol {
-        Symbol::Sub(x, y) => format!(in alloc; "Sub({},{})", x.0, y.0),
-        Symbol::Single(x) => format!(in alloc; "Single({})", x.0),
-        Symbol::Succ0(x, y) => format!(in alloc; "Succ0({},{})", x.0, y.0),
-        Symbol::Succ1(x, y) => format!(in alloc; "Succ1({},{})", x.0, y.0),
-        Symbol::Root(x) => format!(in alloc; "Root({})", x.0),
-        Symbol::And => {
-            let right = take(alloc, made);
-            let left = take(alloc, made);
-            format!(in alloc; "And({left},{right})")
-        }
-        Symbol::Not => {
-            let inner = take(alloc, made);
-            format!(in alloc; "Not({inner})")
-        }
-        Symbol::Ex2(t) => {
-            let inner = take(alloc, made);
-            format!(in alloc; "Ex2({},{inner})", t.0)
+/// Writes the number in decimal.
+pub(crate) fn push_number(out: &mut Writer, number: u32) {
+    for unit in UNITS {
+        let digit = number.checked_div(unit).unwrap_or(0) % 10;
+        if unit <= number || unit == 1 {
+            out.push(b'0'.wrapping_add(digit as u8));
         }
     }
 }
 
-/// Puts the text of the symbol in the place of those of its parts.
-fn spell_symbol(alloc: Global, made: &mut Vec<String>, symbol: Symbol) -> Result<(), AllocError> {
-    let text = spelled_at(alloc, made, symbol)?;
-    made.push(text)?;
-    Ok(())
+/// Writes a name with a track behind it.
+fn spell_one(out: &mut Writer, name: &[u8], x: Track) {
+    out.push_all(name);
+    push_number(out, x.0);
 }
 
-/// The formula's text.
-pub(crate) fn spelled(alloc: Global, formula: &Formula) -> Result<String, AllocError> {
-    let symbols = symbols_of(alloc, formula)?;
-    let mut made = Vec::new(alloc);
-    for symbol in symbols.as_slice() {
-        spell_symbol(alloc, &mut made, *symbol)?;
+/// Writes an atom of one track.
+fn spell_of_one(out: &mut Writer, name: &[u8], x: Track) {
+    spell_one(out, name, x);
+    out.push(b')');
+}
+
+/// Writes an atom of two tracks.
+fn spell_of_two(out: &mut Writer, name: &[u8], x: Track, y: Track) {
+    spell_one(out, name, x);
+    spell_one(out, b",", y);
+    out.push(b')');
+}
+
+/// Writes a formula.
+pub(crate) fn spell(out: &mut Writer, formula: &Formula) {
+    match formula {
+        Formula::Sub(x, y) => spell_of_two(out, b"Sub(", *x, *y),
+        Formula::Single(x) => spell_of_one(out, b"Single(", *x),
+        Formula::Succ0(x, y) => spell_of_two(out, b"Succ0(", *x, *y),
+        Formula::Succ1(x, y) => spell_of_two(out, b"Succ1(", *x, *y),
+        Formula::Root(x) => spell_of_one(out, b"Root(", *x),
+        Formula::And(left, right) => {
+            out.push_all(b"And(");
+            spell(out, left.get());
+            out.push(b',');
+            spell(out, right.get());
+            out.push(b')');
+        }
+        Formula::Not(inner) => {
+            out.push_all(b"Not(");
+            spell(out, inner.get());
+            out.push(b')');
+        }
+        Formula::Ex2(t, inner) => {
+            spell_one(out, b"Ex2(", *t);
+            out.push(b',');
+            spell(out, inner.get());
+            out.push(b')');
+        }
     }
-    Ok(take(alloc, &mut made))
 }

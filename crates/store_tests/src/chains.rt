@@ -4,7 +4,7 @@ ghost use Rattle.std.specs.Prelude.{◌≡◌, ◌+◌, ◌<◌, [], length, IfO
 ghost use Rattle.store_logic.specs.Uses.{CanExpand};
 ghost use Rattle.store_tests.specs.Chains.{IsLink};
 
-use crate::tables::{SHORT, made_types, made_vars, store_of};
+use crate::programs::{SHORT, program_of, store_of, vars_of};
 use plain_data::Boxed;
 use std::alloc::{AllocError, Global};
 use std::test::Fail;
@@ -12,6 +12,9 @@ use store_core::{Store, TypeTable};
 use store_expand::{ExpandFault, SizedPreds, expand};
 use store_logic::{ArgList, Assertion, PredDef, Preds, Region};
 use store_sat::sat;
+
+/// A store without cells.
+const NONE: &str = "store\nvar x null\nvar b false\nvar S {}\nend\n";
 
 /// The use of a predicate without arguments.
 fn used(alloc: Global, k: u32) -> Assertion
@@ -89,10 +92,9 @@ fn judged(
 
 /// The same on a store without cells.
 fn judged_on_none(alloc: Global, assertion: &Assertion) -> Result<(bool, bool), Fail> {
-    let types = made_types(alloc)?;
-    let vars = made_vars(alloc, SHORT)?;
-    let store = store_of(alloc, &types, &vars, "var x null\nvar S {}\nvar b false\n")?;
-    Ok(judged(alloc, &types, &store, assertion)?)
+    let typed = program_of(alloc, SHORT, "true")?;
+    let store = store_of(alloc, typed.types(), vars_of(&typed)?, NONE)?;
+    Ok(judged(alloc, typed.types(), &store, assertion)?)
 }
 
 #[test]

@@ -6,15 +6,13 @@
 #[cfg(test)]
 mod chains;
 #[cfg(test)]
-mod copies;
-#[cfg(test)]
 mod cuts;
+#[cfg(test)]
+mod programs;
 #[cfg(test)]
 mod regions;
 #[cfg(test)]
 mod routes;
-#[cfg(test)]
-mod tables;
 #[cfg(test)]
 mod told;
 #[cfg(test)]

@@ -1,9 +1,11 @@
-//! Long routes.
+//! Long routes, and copies.
 
+use crate::programs::{pre_of, program_of};
 use plain_data::{Boxed, Items};
 use std::alloc::{AllocError, Global};
 use std::test::Fail;
-use store_core::{Route, TypeId, VariantId};
+use store_core::Route;
+use store_logic::Assertion;
 
 /// How many steps a long route has.
 const LONG: u32 = 100_000;
@@ -13,93 +15,104 @@ fn step(alloc: Global) -> Result<Route, AllocError> {
 }
 
 fn then(alloc: Global, first: Route, second: Route) -> Result<Route, AllocError> {
-    Ok(Route::Then(Boxed::new(alloc, first)?, Boxed::new(alloc, second)?))
+    let first = Boxed::new(alloc, first)?;
+    Ok(Route::Then(first, Boxed::new(alloc, second)?))
 }
 
-fn either(alloc: Global, one: Route, other: Route) -> Result<Route, AllocError> {
-    Ok(Route::Or(Boxed::new(alloc, one)?, Boxed::new(alloc, other)?))
+/// Repetitions of a route, or a step.
+fn rounds_or_step(alloc: Global, round: Route) -> Result<Route, AllocError> {
+    let rounds = Boxed::new(alloc, Route::Star(Boxed::new(alloc, round)?))?;
+    Ok(Route::Or(rounds, Boxed::new(alloc, step(alloc)?)?))
 }
 
-/// Steps one after the other, grouped from the left.
-fn left_chain(alloc: Global, steps: u32) -> Result<Route, AllocError> {
+/// How the steps of a long route stand.
+#[derive(Clone, Copy)]
+enum Shape {
+    /// One after the other, grouped from the left.
+    Left,
+    /// One after the other, grouped from the right.
+    Right,
+    /// Choices and repetitions within one another, on both sides.
+    Nest,
+}
+
+/// The route with one more level around it.
+fn grown(alloc: Global, shape: Shape, level: u32, route: Route) -> Result<Route, AllocError> {
+    match shape {
+        Shape::Left => then(alloc, route, step(alloc)?),
+        Shape::Right => then(alloc, step(alloc)?, route),
+        Shape::Nest if level % 2 == 0 => rounds_or_step(alloc, route),
+        Shape::Nest => {
+            let rounds = Route::Star(Boxed::new(alloc, route)?);
+            then(alloc, step(alloc)?, rounds)
+        }
+    }
+}
+
+/// A route of many levels.
+fn long(alloc: Global, shape: Shape) -> Result<Route, AllocError> {
     let mut route = step(alloc)?;
-    for _step in 0..steps {
-        route = then(alloc, route, step(alloc)?)?;
+    for level in 0..LONG {
+        route = grown(alloc, shape, level, route)?;
     }
     Ok(route)
 }
 
-/// Steps one after the other, grouped from the right.
-fn right_chain(alloc: Global, steps: u32) -> Result<Route, AllocError> {
-    let mut route = step(alloc)?;
-    for _step in 0..steps {
-        route = then(alloc, step(alloc)?, route)?;
-    }
-    Ok(route)
-}
-
-/// Choices and repetitions within one another, on both sides.
-fn nest(alloc: Global, levels: u32) -> Result<Route, AllocError> {
-    let mut route = step(alloc)?;
-    for level in 0..levels {
-        let round = Route::Star(Boxed::new(alloc, route)?);
-        route = if level % 2 == 0 {
-            either(alloc, round, step(alloc)?)?
-        } else {
-            then(alloc, step(alloc)?, round)?
-        };
-    }
-    Ok(route)
+/// Whether the route and its copy end with two parts one after the other. Both are dropped.
+fn is_copied(alloc: Global, route: &Route) -> Result<bool, AllocError> {
+    let copy = route.copy(alloc)?;
+    Ok(matches!(route, Route::Then(_, _)) && matches!(&copy, Route::Then(_, _)))
 }
 
 #[test]
-fn long_routes_are_dropped(rt: HostRuntime) -> Result<(), Fail> {
-    let alloc = rt.alloc();
-    assert!(rt; matches!(&left_chain(alloc, LONG)?, Route::Then(_, _)));
-    assert!(rt; matches!(&right_chain(alloc, LONG)?, Route::Then(_, _)));
-    assert!(rt; matches!(&nest(alloc, LONG)?, Route::Then(_, _)));
+fn long_routes_are_copied_and_dropped(rt: HostRuntime) -> Result<(), Fail> {
+    for shape in [Shape::Left, Shape::Right, Shape::Nest] {
+        let route = long(rt.alloc(), shape)?;
+        assert!(rt; is_copied(rt.alloc(), &route)?);
+    }
     Ok(())
 }
 
-#[test]
-fn long_routes_are_copied(rt: HostRuntime) -> Result<(), Fail> {
-    let alloc = rt.alloc();
-    assert!(rt; matches!(&left_chain(alloc, LONG)?.copy(alloc)?, Route::Then(_, _)));
-    assert!(rt; matches!(&right_chain(alloc, LONG)?.copy(alloc)?, Route::Then(_, _)));
-    assert!(rt; matches!(&nest(alloc, LONG)?.copy(alloc)?, Route::Then(_, _)));
-    Ok(())
+/// A number that tells the forms without parts apart, with their types, variants and truth values; 0 for any other.
+fn form_of(route: &Route) -> u32 {
+    match route {
+        Route::Up(_) => 1,
+        Route::UpAny => 2,
+        Route::Root => 3,
+        Route::Leaf => 4,
+        Route::IsBool(_, is_true) => 5 + *is_true as u32,
+        Route::IsType(ty) => 10 + ty.0 % 10,
+        Route::IsVariant(v) => 20 + 10 * (v.ty.0 % 10) + v.index % 10,
+        _ => 0,
+    }
 }
 
-/// Whether a truth value, a variant and a type are copied.
-fn tests_are_copied(alloc: Global) -> Result<bool, AllocError> {
-    let ty = TypeId(1);
-    let truth = Route::IsBool(Items::from_slice(alloc, b"b")?, true);
-    let variant = Route::IsVariant(VariantId { ty, index: 2 });
-    Ok(
-        matches!(&truth.copy(alloc)?, Route::IsBool(_, true))
-            && matches!(
-                &variant.copy(alloc)?,
-                Route::IsVariant(VariantId { index: 2, .. })
-            )
-            && matches!(&Route::IsType(ty).copy(alloc)?, Route::IsType(TypeId(1))),
-    )
+/// The form of the copy of a route; `None` for what isn't one.
+fn form_of_copy(alloc: Global, route: &str) -> Result<Option<u32>, Fail> {
+    let typed = program_of(alloc, b"proc p(data x: Node)", route)?;
+    match pre_of(&typed) {
+        Some(Assertion::Walk(_, route, _)) => Ok(Some(form_of(&route.copy(alloc)?))),
+        _ => Ok(None),
+    }
 }
 
-/// Whether the inverses and the ends are copied.
-fn steps_are_copied(alloc: Global) -> Result<bool, AllocError> {
-    let up = Route::Up(Items::from_slice(alloc, b"next")?);
-    Ok(
-        matches!(&up.copy(alloc)?, Route::Up(_))
-            && matches!(&Route::UpAny.copy(alloc)?, Route::UpAny)
-            && matches!(&Route::Root.copy(alloc)?, Route::Root)
-            && matches!(&Route::Leaf.copy(alloc)?, Route::Leaf),
-    )
-}
+/// Each form without parts, and its number.
+static FORMS: &[(&str, u32)] = &[
+    ("x<^next>x", 1),
+    ("x<^>x", 2),
+    ("x<root>x", 3),
+    ("x<$>x", 4),
+    ("x<!mark>x", 5),
+    ("x<?mark>x", 6),
+    ("x<@Tree>x", 11),
+    ("x<@Tree:node>x", 31),
+];
 
 #[test]
 fn every_form_of_route_is_copied(rt: HostRuntime) -> Result<(), Fail> {
-    let alloc = rt.alloc();
-    assert!(rt; tests_are_copied(alloc)?);
-    assert!(rt; steps_are_copied(alloc)?);
+    for (route, form) in FORMS {
+        let copied = form_of_copy(rt.alloc(), route)?;
+        assert!(rt; copied == Some(*form), "{route}");
+    }
     Ok(())
 }

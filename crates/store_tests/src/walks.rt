@@ -1,7 +1,7 @@
 //! Walks along routes that no text can say, over data fields alone: of names that are no data fields, and of a variant without
 //! a name.
 
-use crate::tables::{LEAF, NODE, TREE_LINES, VARS, made_types, made_vars, store_of};
+use crate::programs::{LEAF, NODE, TREE_LINES, VARS, program_of, store_of, vars_of};
 use plain_data::{Boxed, Items};
 use routing_expr::{Followed, ends};
 use std::alloc::{AllocError, Global};
@@ -40,7 +40,7 @@ static CASES: &[(Way, u32, &str)] = &[
     (Way::Is(LEAF), 2, "2"),
 ];
 
-pub(crate) fn down(alloc: Global, name: &str) -> Result<Route, AllocError> {
+fn down(alloc: Global, name: &str) -> Result<Route, AllocError> {
     Ok(Route::Down(Items::from_slice(alloc, name.as_bytes())?))
 }
 
@@ -100,12 +100,11 @@ fn leads(
 
 #[test]
 fn names_that_are_no_data_fields_lead_nowhere(rt: HostRuntime) -> Result<(), Fail> {
-    let types = made_types(rt.alloc())?;
-    let vars = made_vars(rt.alloc(), VARS)?;
-    let store = store_of(rt.alloc(), &types, &vars, TREE_LINES)?;
+    let typed = program_of(rt.alloc(), VARS, "true")?;
+    let store = store_of(rt.alloc(), typed.types(), vars_of(&typed)?, TREE_LINES)?;
     for (way, from, wanted) in CASES {
         assert!(rt;
-            leads(rt.alloc(), &types, &store, way, *from, wanted)?,
+            leads(rt.alloc(), typed.types(), &store, way, *from, wanted)?,
             "{from} to {wanted}"
         );
     }

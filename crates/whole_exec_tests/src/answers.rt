@@ -8,10 +8,10 @@ use pale_parse::parse;
 use pale_text::{TextStop, lex};
 use pale_typed::Typed;
 use pale_types::check_types;
+use plain_writer::Writer;
 use routing_expr::well_formed;
 use routing_walks::well_formed_stores_are_fresh;
 use std::alloc::{AllocError, Global};
-use std::fmt::Write;
 use store_core::{CellId, Store, Value, VarTable};
 use store_exec::Cause;
 use store_text::{read_store, read_stores_fit};
@@ -68,8 +68,6 @@ fn started(
     requires next { store.next < 1000001 }
     requires steps { steps < 1000001 }
 {
-    // Only for its clause on the table.
-    let _ = vars.vars();
     run_procedure(alloc, program, number, store, steps)
 }
 
@@ -101,46 +99,77 @@ fn answer_of(
     Ok(Some(started(alloc, &program, number, vars, read, steps)?))
 }
 
-fn push_cells(out: &mut String, cells: &[CellId]) -> Result<(), AllocError> {
-    out.push_str(" {")?;
-    for cell in cells {
-        write!(out, " {}", cell.0)?;
+/// What the digits of a `u32` stand for.
+const UNITS: [u32; 10] = [
+    1_000_000_000,
+    100_000_000,
+    10_000_000,
+    1_000_000,
+    100_000,
+    10_000,
+    1_000,
+    100,
+    10,
+    1,
+];
+
+/// Writes a space and the number of the cell.
+fn push_cell(out: &mut Writer, cell: CellId) {
+    out.push(b' ');
+    for unit in UNITS {
+        let digit = cell.0.checked_div(unit).unwrap_or(0) % 10;
+        if unit <= cell.0 || unit == 1 {
+            out.push(b'0'.wrapping_add(digit as u8));
+        }
     }
-    out.push_str(" }")
 }
 
-fn push_value(out: &mut String, value: &Value) -> Result<(), AllocError> {
+fn push_cells(out: &mut Writer, cells: &[CellId]) {
+    out.push_all(b" {");
+    for cell in cells {
+        push_cell(out, *cell);
+    }
+    out.push_all(b" }");
+}
+
+fn push_value(out: &mut Writer, value: &Value) {
     match value {
-        Value::Bool(true) => out.push_str(" true"),
-        Value::Bool(false) => out.push_str(" false"),
-        Value::Cell(None) => out.push_str(" null"),
-        Value::Cell(Some(cell)) => write!(out, " {}", cell.0),
+        Value::Bool(true) => out.push_all(b" true"),
+        Value::Bool(false) => out.push_all(b" false"),
+        Value::Cell(None) => out.push_all(b" null"),
+        Value::Cell(Some(cell)) => push_cell(out, *cell),
         Value::Cells(cells) => push_cells(out, cells.as_slice()),
     }
 }
 
 /// The next number, the values of the variables in order, and the numbers of the cells.
-fn told_of(alloc: Global, store: &Store) -> Result<String, AllocError> {
-    let mut out = format!(in alloc; "next {}:", store.next())?;
+fn told_of(alloc: Global, store: &Store) -> Result<Vec<u8>, AllocError> {
+    let mut out = Writer::new(alloc);
+    out.push_all(b"next");
+    push_cell(&mut out, CellId(store.next()));
+    out.push(b':');
     for value in store.values() {
-        push_value(&mut out, value)?;
+        push_value(&mut out, value);
     }
-    out.push_str(";")?;
+    out.push(b';');
     for place in 0..store.cells() {
         if let Some(cell) = store.cell_at(place) {
-            write!(out, " {}", cell.0)?;
+            push_cell(&mut out, cell);
         }
     }
-    Ok(out)
+    out.finish()
 }
 
-fn is_wanted(alloc: Global, answer: Answer, want: Want) -> Result<bool, AllocError> {
+fn is_wanted(alloc: Global, answer: &Answer, want: Want) -> Result<bool, AllocError> {
     match (answer, want) {
         (Answer::Running, Want::Running) => Ok(true),
         (Answer::Fail(cause, line), Want::Fail(other, there)) => {
-            Ok(cause == other && line == there)
+            Ok(*cause == other && *line == there)
         }
-        (Answer::Exit(store), Want::Exit(told)) => Ok(told_of(alloc, &store)?.as_str() == told),
+        (Answer::Exit(store), Want::Exit(told)) => {
+            let text = told_of(alloc, store)?;
+            Ok(text.as_slice() == told.as_bytes())
+        }
         _ => Ok(false),
     }
 }
@@ -158,7 +187,7 @@ pub(crate) fn comes(
         return Ok(false);
     }
     match answer_of(alloc, text, number, store, steps)? {
-        Some(answer) => is_wanted(alloc, answer, want),
+        Some(answer) => is_wanted(alloc, &answer, want),
         None => Ok(false),
     }
 }

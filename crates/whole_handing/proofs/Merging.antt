@@ -271,17 +271,17 @@ either_of None b some = inr some
 either_of (Some x) b some = inl refl
 
 module _ (s t : StoreMap) (made : List CellBody) (all : AreAll s t made) where
-  pub all_kept : IsAbove s → IsAbove t → t.next ≤ s.next → IsKept made s.next
-  all_kept above other_above later = record {
+  pub all_kept : IsAbove s → IsAbove t → (next : ℕ) → s.next ≤ next → t.next ≤ next → IsKept made next
+  all_kept above other_above next later other_later = record {
     rising = all.rising;
-    below = AllByRecursion-from (λ (b : CellBody). b.number < s.next) made (λ k b is.
+    below = AllByRecursion-from (λ (b : CellBody). b.number < next) made (λ k b is.
         let there = entry_found (cells_of made) (sorted_cells made all.rising) k (cell_entry b)
         (slice_get-map cell_entry made k ∙ ap (option_map cell_entry) is) in
         let some : IsSome (find nat_cmp b.number (entries s.cells ++ entries t.cells)) = ap is_some (sym (all.found b.number) ∙ there) in
         elim (either_of (find nat_cmp b.number (entries s.cells)) (find nat_cmp b.number (entries t.cells))
         (subst IsSome (find_both b.number (entries s.cells) (entries t.cells)) some)) [
-          | inl own ↦ live_below s (record { 0 = b.number }) above (live_found s b.number own)
-          | inr theirs ↦ (let low = live_below t (record { 0 = b.number }) other_above (live_found t b.number theirs) in omega (arith, low, later))
+          | inl own ↦ (let low = live_below s (record { 0 = b.number }) above (live_found s b.number own) in omega (arith, low, later))
+          | inr theirs ↦ (let low = live_below t (record { 0 = b.number }) other_above (live_found t b.number theirs) in omega (arith, low, other_later))
         ]);
   }
 

@@ -1,6 +1,6 @@
 //! The cells of two stores beside each other.
 
-ghost use Rattle.std.specs.Prelude.{◌≡◌, ◌≤◌, ◌++◌, IfOk};
+ghost use Rattle.std.specs.Prelude.{◌≡◌, ◌++◌, max, IfOk};
 ghost use Rattle.std.specs.FinMap.{entries, from_entries};
 ghost use Rattle.whole_handing.specs.Beside.{AreApart, IsSmaller, IsNext, AreAll};
 
@@ -47,10 +47,7 @@ fn all_cells(alloc: Global, one: &Store, other: &Store) -> Result<Vec<CellBody>,
     requires { AreApart one.now other.now }
     ensures { IfOk result (λ made. AreAll one.now other.now made.items) }
 {
-    // Only for their clauses on the counts, which the places stay below.
-    let _ = one.cells();
-    let _ = other.cells();
-    let mut made = Vec::new(alloc);
+    let mut made = Vec::with_capacity(alloc, one.cells().saturating_add(other.cells()))?;
     let mut i = 0;
     let mut j = 0;
     while let Some(next) = next_cell(one, other, i, j) {
@@ -68,24 +65,22 @@ fn all_cells(alloc: Global, one: &Store, other: &Store) -> Result<Vec<CellBody>,
     Ok(made)
 }
 
-/// The store of the live cells of two stores, with these values for the variables, and the first's next number. No number is one of
-/// both, and the first's next number isn't below the second's.
+/// The store of the live cells of two stores, with these values for the variables, and the greater of their next numbers, which is
+/// above the cells of both. No number is one of both.
 pub(crate) fn beside(
     alloc: Global,
     one: &Store,
     other: &Store,
     vars: Items<Value>,
 ) -> Result<Store, AllocError>
-    requires apart { AreApart one.now other.now }
-    requires later { other.now.next ≤ one.now.next }
+    requires { AreApart one.now other.now }
     ensures { IfOk result (λ made. made ≡ record {
       cells = from_entries (entries one.now.cells ++ entries other.now.cells);
       vars = vars;
-      next = one.now.next;
+      next = max one.now.next other.now.next;
     }) }
 {
     let made = all_cells(alloc, one, other)?;
-    // Only for its clause on the numbers.
-    let _ = other.next();
-    Ok(Store::of(made, vars, one.next()))
+    let next = one.next().max(other.next());
+    Ok(Store::of(made, vars, next))
 }

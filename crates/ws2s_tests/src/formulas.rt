@@ -1,83 +1,131 @@
-//! Formulas as short texts, each form after its parts, and their comparison.
+//! Formulas as short texts, each form after its parts, their comparison, and the rewriters.
 
 use std::alloc::{AllocError, Global};
 use ws2s_core::{Formula, Interner, Track, intern};
+use ws2s_narrow::narrow_scope;
+use ws2s_pass::{drop_unused, flatten_not, fold_constants};
 
-/// The track that a digit names.
-fn track(digit: u8) -> Track {
-    Track((digit & 15) as u32)
+/// How many levels a tower has.
+pub const LEVELS: u32 = 65_536;
+
+/// The track that a letter names at a level of a tower: `k` is the level, counted from 0, `j` the next one, `d` and `e` the same
+/// from the other end, `n` the number of levels and `m` one more; a digit is itself.
+fn track(letter: u8, level: u32) -> Track {
+    Track(match letter {
+        b'k' => level,
+        b'j' => level.wrapping_add(1),
+        b'd' => LEVELS.wrapping_sub(level),
+        b'e' => LEVELS.wrapping_sub(level).wrapping_add(1),
+        b'n' => LEVELS,
+        b'm' => LEVELS + 1,
+        _ => (letter & 15) as u32,
+    })
 }
 
-/// The conjunction of the last two parts. `None` where there are fewer.
-fn conjunction(alloc: Global, parts: &mut Vec<Formula>) -> Result<Option<Formula>, AllocError> {
-    let Some(right) = parts.pop() else {
-        return Ok(None);
-    };
+/// Takes off the last part; where there is none, that track 9 has the root.
+fn last(parts: &mut Vec<Formula>) -> Formula {
     match parts.pop() {
-        Some(left) => Ok(Some(Formula::and(alloc, left, right)?)),
-        None => Ok(None),
+        Some(part) => part,
+        None => Formula::Root(Track(9)),
     }
 }
 
-/// The negation of the last part. `None` where there is none.
-fn negation(alloc: Global, parts: &mut Vec<Formula>) -> Result<Option<Formula>, AllocError> {
-    match parts.pop() {
-        Some(inner) => Ok(Some(Formula::not(alloc, inner)?)),
-        None => Ok(None),
+/// What `and` or `not` makes of the last parts, and `front` of two with the last one in front.
+fn joined(alloc: Global, word: &[u8], parts: &mut Vec<Formula>) -> Result<Formula, AllocError> {
+    let one = last(parts);
+    if word == b"not".as_slice() {
+        return Formula::not(alloc, one);
+    }
+    let other = last(parts);
+    if word == b"and".as_slice() {
+        Formula::and(alloc, other, one)
+    } else {
+        Formula::and(alloc, one, other)
     }
 }
 
-/// The last part with a track quantified. `None` where there is none.
-fn quantified(
-    alloc: Global,
-    t: u8,
-    parts: &mut Vec<Formula>,
-) -> Result<Option<Formula>, AllocError> {
-    match parts.pop() {
-        Some(inner) => Ok(Some(Formula::ex2(alloc, track(t), inner)?)),
-        None => Ok(None),
-    }
-}
-
-/// What a word makes of the last parts. `None` for another word, or too few parts.
+/// What a word makes at a level, of the last parts where it takes some.
 fn made(
     alloc: Global,
     word: &[u8],
+    level: u32,
     parts: &mut Vec<Formula>,
-) -> Result<Option<Formula>, AllocError> {
+) -> Result<Formula, AllocError> {
     match word {
-        b"and" => conjunction(alloc, parts),
-        b"not" => negation(alloc, parts),
-        [b'x', t] => quantified(alloc, *t, parts),
-        [b'=', x] => Ok(Some(Formula::Single(track(*x)))),
-        [b'.', x] => Ok(Some(Formula::Root(track(*x)))),
-        [x, b'<', y] => Ok(Some(Formula::Sub(track(*x), track(*y)))),
-        [x, b'0', y] => Ok(Some(Formula::Succ0(track(*x), track(*y)))),
-        [x, b'1', y] => Ok(Some(Formula::Succ1(track(*x), track(*y)))),
-        _ => Ok(None),
+        [b'x', t] => Formula::ex2(alloc, track(*t, level), last(parts)),
+        [b'=', x] => Ok(Formula::Single(track(*x, level))),
+        [b'.', x] => Ok(Formula::Root(track(*x, level))),
+        [x, b'<', y] => Ok(Formula::Sub(track(*x, level), track(*y, level))),
+        [x, b'0', y] => Ok(Formula::Succ0(track(*x, level), track(*y, level))),
+        [x, b'1', y] => Ok(Formula::Succ1(track(*x, level), track(*y, level))),
+        _ => joined(alloc, word, parts),
     }
 }
 
-/// The formula of a text: `=3` is `Single 3`, `.3` is `Root 3`, `3<4` is `Sub 3 4`, `304` is `Succ0 3 4`, `314` is
-/// `Succ1 3 4`, and `and`, `not` and `x3`, which is `Ex2 3`, stand after their parts. `None` for other texts.
-pub fn formula(alloc: Global, text: &str) -> Result<Option<Formula>, AllocError> {
-    let mut parts = Vec::new(alloc);
+/// Puts what a text makes at a level behind the parts.
+fn add(alloc: Global, text: &str, level: u32, parts: &mut Vec<Formula>) -> Result<(), AllocError> {
     for word in text.split_whitespace() {
-        match made(alloc, word.as_bytes(), &mut parts)? {
-            Some(part) => parts.push(part)?,
-            None => return Ok(None),
+        let part = made(alloc, word.as_bytes(), level, parts)?;
+        parts.push(part)?;
+    }
+    Ok(())
+}
+
+/// A text, with the first level for which it stands and the one past the last.
+pub type Part = (&'static str, u32, u32);
+
+/// The formula of texts one after the other: `=3` is `Single 3`, `.3` is `Root 3`, `3<4` is `Sub 3 4`, `304` is `Succ0 3 4`, `314`
+/// is `Succ1 3 4`, and `and`, `front`, `not` and `x3`, which is `Ex2 3`, stand after their parts.
+pub fn tower(alloc: Global, texts: &[Part]) -> Result<Formula, AllocError> {
+    let mut parts = Vec::new(alloc);
+    for (text, from, to) in texts {
+        for level in *from..*to {
+            add(alloc, text, level, &mut parts)?;
         }
     }
-    Ok(parts.pop())
+    Ok(last(&mut parts))
+}
+
+/// The formula of a text.
+pub fn formula(alloc: Global, text: &str) -> Result<Formula, AllocError> {
+    let mut parts = Vec::new(alloc);
+    add(alloc, text, 0, &mut parts)?;
+    Ok(last(&mut parts))
+}
+
+/// Whether both formulas are the same.
+pub fn are_equal(alloc: Global, one: &Formula, other: &Formula) -> Result<bool, AllocError> {
+    let mut interner = Interner::new(alloc);
+    let first = intern(alloc, &mut interner, one)?;
+    let second = intern(alloc, &mut interner, other)?;
+    Ok(first == second)
 }
 
 /// Whether the formula is that of the text.
-pub fn is(alloc: Global, formula_made: &Formula, text: &str) -> Result<bool, AllocError> {
-    let Some(wanted) = formula(alloc, text)? else {
-        return Ok(false);
-    };
-    let mut interner = Interner::new(alloc);
-    let made = intern(alloc, &mut interner, formula_made)?;
-    let other = intern(alloc, &mut interner, &wanted)?;
-    Ok(made == other)
+pub fn is(alloc: Global, made: &Formula, text: &str) -> Result<bool, AllocError> {
+    let wanted = formula(alloc, text)?;
+    are_equal(alloc, made, &wanted)
+}
+
+/// A rewriter.
+#[derive(Clone, Copy)]
+pub enum Rewriting {
+    /// `flatten_not`: no two negations stand together.
+    Flat,
+    /// `drop_unused`: quantifiers of what isn't free are left out.
+    Used,
+    /// `fold_constants`: constants are folded.
+    Folded,
+    /// `narrow_scope`: quantifiers stand as far inside as they may.
+    Narrow,
+}
+
+/// What the rewriter makes of the formula.
+pub fn rewritten(alloc: Global, by: Rewriting, whole: &Formula) -> Result<Formula, AllocError> {
+    match by {
+        Rewriting::Flat => flatten_not(alloc, whole),
+        Rewriting::Used => drop_unused(alloc, whole),
+        Rewriting::Folded => fold_constants(alloc, whole),
+        Rewriting::Narrow => narrow_scope(alloc, whole),
+    }
 }

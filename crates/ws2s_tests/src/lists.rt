@@ -16,62 +16,62 @@ fn name(alloc: Global, text: &str) -> Result<PassName, AllocError> {
     Ok(PassName(Items::from_slice(alloc, text.as_bytes())?))
 }
 
-/// Whether the list makes the second text's formula of the first text's.
-fn makes(alloc: Global, passes: &PassList, text: &str, wanted: &str) -> Result<bool, AllocError> {
-    let Some(whole) = formula(alloc, text)? else {
-        return Ok(false);
-    };
-    let made = apply(alloc, passes, &whole)?;
-    is(alloc, &made, wanted)
-}
-
-/// Whether a list that leaves out double negations, and then unused quantifiers, makes the second text's formula of the
-/// first text's.
-fn two_make(alloc: Global, text: &str, wanted: &str) -> Result<bool, AllocError> {
-    let mut passes = PassList::new(alloc);
-    let flatten: Rewriter = Box::new(
+/// Double negations are left out.
+fn flattening(alloc: Global) -> Result<Pass, AllocError> {
+    let run: Rewriter = Box::new(
         alloc,
         |alloc: Global, formula: &Formula| -> Result<Formula, AllocError>
             ensures { IfOk result (λ made. IsRewriting formula.now made) }
         { flatten_not(alloc, formula) },
     )?;
-    passes.add(Pass::new(name(alloc, "flatten_not")?, flatten))?;
-    let forget: Rewriter = Box::new(
+    Ok(Pass::new(name(alloc, "flatten_not")?, run))
+}
+
+/// Unused quantifiers are left out.
+fn dropping(alloc: Global) -> Result<Pass, AllocError> {
+    let run: Rewriter = Box::new(
         alloc,
         |alloc: Global, formula: &Formula| -> Result<Formula, AllocError>
             ensures { IfOk result (λ made. IsRewriting formula.now made) }
         { drop_unused(alloc, formula) },
     )?;
-    passes.add(Pass::new(name(alloc, "drop_unused")?, forget))?;
-    makes(alloc, &passes, text, wanted)
+    Ok(Pass::new(name(alloc, "drop_unused")?, run))
+}
+
+/// Constants are folded.
+fn folding(alloc: Global) -> Result<Pass, AllocError> {
+    let run: Rewriter = Box::new(
+        alloc,
+        |alloc: Global, formula: &Formula| -> Result<Formula, AllocError>
+            ensures { IfOk result (λ made. IsRewriting formula.now made) }
+        { fold_constants(alloc, formula) },
+    )?;
+    Ok(Pass::new(name(alloc, "fold_constants")?, run))
+}
+
+/// Whether the list makes the second text's formula of the first text's.
+fn makes(alloc: Global, passes: &PassList, text: &str, wanted: &str) -> Result<bool, AllocError> {
+    let whole = formula(alloc, text)?;
+    let made = apply(alloc, passes, &whole)?;
+    is(alloc, &made, wanted)
 }
 
 #[test]
 fn passes_run_one_after_the_other(rt: HostRuntime) -> Result<(), Fail> {
-    assert!(rt; two_make(rt.alloc(), "=0 not not x1", "=0")?);
+    let mut passes = PassList::new(rt.alloc());
+    passes.add(flattening(rt.alloc())?)?;
+    passes.add(dropping(rt.alloc())?)?;
+    assert!(rt; makes(rt.alloc(), &passes, "=0 not not x1", "=0")?);
     Ok(())
 }
 
 /// Folding makes an unused quantifier, which a pass after it leaves out and a pass before it doesn't.
 #[test]
 fn the_last_pass_runs_last(rt: HostRuntime) -> Result<(), Fail> {
-    let alloc = rt.alloc();
-    let mut passes = PassList::new(alloc);
-    let forget: Rewriter = Box::new(
-        alloc,
-        |alloc: Global, formula: &Formula| -> Result<Formula, AllocError>
-            ensures { IfOk result (λ made. IsRewriting formula.now made) }
-        { drop_unused(alloc, formula) },
-    )?;
-    passes.add(Pass::new(name(alloc, "drop_unused")?, forget))?;
-    let fold: Rewriter = Box::new(
-        alloc,
-        |alloc: Global, formula: &Formula| -> Result<Formula, AllocError>
-            ensures { IfOk result (λ made. IsRewriting formula.now made) }
-        { fold_constants(alloc, formula) },
-    )?;
-    passes.add(Pass::new(name(alloc, "fold_constants")?, fold))?;
-    assert!(rt; makes(alloc, &passes, "=0 1<1 and x1", "=0 x1")?);
+    let mut passes = PassList::new(rt.alloc());
+    passes.add(dropping(rt.alloc())?)?;
+    passes.add(folding(rt.alloc())?)?;
+    assert!(rt; makes(rt.alloc(), &passes, "=0 1<1 and x1", "=0 x1")?);
     Ok(())
 }
 

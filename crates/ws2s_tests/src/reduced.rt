@@ -4,10 +4,11 @@ mod rows;
 
 ghost use Rattle.std.specs.Prelude.{◌<◌, length};
 
-use rows::{ATOMS, CONNECTIVES, Form, PREDICATES, QUANTIFIERS, ROWS, Row};
+use crate::formulas::is;
+use rows::{ATOMS, CONNECTIVES, PREDICATES, QUANTIFIERS, ROWS, Row};
 use std::alloc::{AllocError, Global};
 use std::test::Fail;
-use ws2s_core::Formula;
+use ws2s_core::Track;
 use ws2s_read::read_ws2s;
 use ws2s_reduce::{Reduced, reduce};
 
@@ -22,61 +23,37 @@ fn reduced(alloc: Global, text: &[u8]) -> Result<Reduced, Fail>
     }
 }
 
-/// A formula as it is printed for debugging, without its boxes.
-fn spelled(alloc: Global, formula: &Formula) -> Result<String, AllocError> {
-    let printed = format!(in alloc; "{formula:?}")?;
-    let inner = printed.replace(alloc, "Boxed { held: ", "")?;
-    inner.replace(alloc, " }", "")
+/// Whether these are the tracks 0, 1 and so on, so many.
+fn are_first(tracks: &[Track], count: u32) -> bool {
+    let mut next = 0u32;
+    for track in tracks {
+        if track.0 != next {
+            return false;
+        }
+        next = next.wrapping_add(1);
+    }
+    next == count
 }
 
-/// The tracks of a text's free variables, and the formulas by which it holds and breaks.
-fn told(alloc: Global, text: &[u8]) -> Result<String, Fail>
-    requires { length text.now < u32.MAX }
-{
-    let reduced = reduced(alloc, text)?;
-    let holds = spelled(alloc, &reduced.holds)?;
-    let breaks = spelled(alloc, &reduced.breaks)?;
-    Ok(format!(in alloc; "{:?} {holds} {breaks}", reduced.free.as_slice())?)
+/// Whether both formulas are those of these texts.
+fn are(alloc: Global, made: &Reduced, holds: &str, breaks: &str) -> Result<bool, AllocError> {
+    Ok(is(alloc, &made.holds, holds)? && is(alloc, &made.breaks, breaks)?)
 }
 
-/// Whether these are the tracks and formulas of a text.
-fn is_reduced_to(
-    alloc: Global,
-    text: &[u8],
-    free: &str,
-    holds: &str,
-    breaks: &str,
-) -> Result<bool, Fail> {
+/// Whether a text is reduced as the row has it.
+fn is_row(alloc: Global, (text, free, holds, breaks): &Row) -> Result<bool, Fail> {
     if text.len() >= 1000 {
         return Ok(false);
     }
-    let got = told(alloc, text)?;
-    let want = format!(in alloc; "{free} {holds} {breaks}")?;
-    Ok(got.as_str() == want.as_str())
-}
-
-fn is_row(alloc: Global, row: &Row) -> Result<bool, Fail> {
-    is_reduced_to(alloc, row.text, row.free, row.holds, row.breaks)
-}
-
-fn is_form(alloc: Global, (text, free, holds): &Form) -> Result<bool, Fail> {
-    let breaks = format!(in alloc; "Not({holds})")?;
-    is_reduced_to(alloc, text, free, holds, breaks.as_str())
+    let made = reduced(alloc, text)?;
+    Ok(are_first(made.free.as_slice(), *free) && are(alloc, &made, holds, breaks)?)
 }
 
 #[test]
-fn whole_texts_are_reduced(rt: HostRuntime) -> Result<(), Fail> {
-    for row in ROWS {
-        assert!(rt; is_row(rt.alloc(), row)?, "to {}", row.holds);
-    }
-    Ok(())
-}
-
-#[test]
-fn forms_are_reduced(rt: HostRuntime) -> Result<(), Fail> {
-    for forms in [ATOMS, CONNECTIVES, QUANTIFIERS, PREDICATES] {
-        for form in forms {
-            assert!(rt; is_form(rt.alloc(), form)?, "to {}", form.2);
+fn texts_are_reduced(rt: HostRuntime) -> Result<(), Fail> {
+    for rows in [ROWS, ATOMS, CONNECTIVES, QUANTIFIERS, PREDICATES] {
+        for row in rows {
+            assert!(rt; is_row(rt.alloc(), row)?, "to {}", row.2);
         }
     }
     Ok(())

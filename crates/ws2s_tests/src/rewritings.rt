@@ -1,11 +1,9 @@
 //! What each rewriter makes of a formula.
 
-use crate::formulas::{formula, is};
+use crate::formulas::{Rewriting, formula, is, rewritten};
 use std::alloc::{AllocError, Global};
 use std::test::Fail;
 use ws2s_core::Formula;
-use ws2s_narrow::narrow_scope;
-use ws2s_pass::{drop_unused, flatten_not, fold_constants};
 
 /// A formula, and what `flatten_not`, `drop_unused`, `fold_constants` and `narrow_scope` make of it.
 type Row = [&'static str; 5];
@@ -140,52 +138,34 @@ const ROWS: [Row; 30] = [
     ],
 ];
 
-fn wanted(row: &Row, answer: &'static str) -> &'static str {
-    if answer == "stays" { row[0] } else { answer }
-}
-
-/// Whether this is made of the formula where no two negations stand together.
-fn is_flat(alloc: Global, whole: &Formula, wanted: &'static str) -> Result<bool, AllocError> {
-    let made = flatten_not(alloc, whole)?;
-    is(alloc, &made, wanted)
-}
-
-/// Whether this is made of the formula where quantifiers of what isn't free are left out.
-fn is_used(alloc: Global, whole: &Formula, wanted: &'static str) -> Result<bool, AllocError> {
-    let made = drop_unused(alloc, whole)?;
-    is(alloc, &made, wanted)
-}
-
-/// Whether this is made of the formula where constants are folded.
-fn is_folded(alloc: Global, whole: &Formula, wanted: &'static str) -> Result<bool, AllocError> {
-    let made = fold_constants(alloc, whole)?;
-    is(alloc, &made, wanted)
-}
-
-/// Whether this is made of the formula where quantifiers stand as far inside as they may.
-fn is_narrow(alloc: Global, whole: &Formula, wanted: &'static str) -> Result<bool, AllocError> {
-    let made = narrow_scope(alloc, whole)?;
-    is(alloc, &made, wanted)
+/// Whether this is made of the formula; `stays` is the formula of the text itself.
+fn is_made(
+    alloc: Global,
+    by: Rewriting,
+    text: &str,
+    whole: &Formula,
+    wanted: &str,
+) -> Result<bool, AllocError> {
+    let made = rewritten(alloc, by, whole)?;
+    is(alloc, &made, if wanted == "stays" { text } else { wanted })
 }
 
 /// Whether each rewriter's answer is as the row has it.
-fn holds(alloc: Global, row: &Row) -> Result<[bool; 4], AllocError> {
-    let Some(whole) = formula(alloc, row[0])? else {
-        return Ok([false; 4]);
-    };
-    Ok([
-        is_flat(alloc, &whole, wanted(row, row[1]))?,
-        is_used(alloc, &whole, wanted(row, row[2]))?,
-        is_folded(alloc, &whole, wanted(row, row[3]))?,
-        is_narrow(alloc, &whole, wanted(row, row[4]))?,
-    ])
+fn holds(alloc: Global, row: &Row) -> Result<bool, AllocError> {
+    let [text, flat, used, folded, narrow] = *row;
+    let whole = formula(alloc, text)?;
+    Ok(
+        is_made(alloc, Rewriting::Flat, text, &whole, flat)?
+            && is_made(alloc, Rewriting::Used, text, &whole, used)?
+            && is_made(alloc, Rewriting::Folded, text, &whole, folded)?
+            && is_made(alloc, Rewriting::Narrow, text, &whole, narrow)?,
+    )
 }
 
 #[test]
 fn rewritings_are_as_worked_out(rt: HostRuntime) -> Result<(), Fail> {
     for row in &ROWS {
-        let answers = holds(rt.alloc(), row)?;
-        assert_eq!(rt; answers, [true; 4], "{}", row[0]);
+        assert!(rt; holds(rt.alloc(), row)?, "{}", row[0]);
     }
     Ok(())
 }

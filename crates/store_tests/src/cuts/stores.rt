@@ -1,100 +1,95 @@
 //! Lists of nodes, with a logic set.
 
-use routing_walks::CutFault;
 use super::Case;
-use crate::tables::NODE;
-use store_core::VarKind;
+use routing_expr::CutFault;
+use routing_walks::CutFault;
 
-/// `data x, y: Node; set S: Node`
-pub static VARS: &[(&str, VarKind)] = &[
-    ("x", VarKind::Data(NODE)),
-    ("y", VarKind::Data(NODE)),
-    ("S", VarKind::LogicSet(NODE)),
-];
+/// The variables of these stores.
+pub const VARS: &[u8] = b"proc p(data x: Node, data y: Node) logic set S: Node";
 
 /// Twelve stores over these variables.
 pub static STORES: &[Case] = &[
     Case {
-        lines: "var x null\nvar y null\nvar S {}\n",
+        text: "store\nvar x null\nvar y null\nvar S {}\nend\n",
         fault: None,
         reached: "",
         live: 0,
         ends: "",
     },
     Case {
-        lines: "var x 1\nvar y null\nvar S {1}\ncell 1 Node next=2 prev=null mark=false\ncell 2 Node next=null prev=1 mark=false\n",
+        text: "store\nvar x 1\nvar y null\nvar S {1}\ncell 1 Node next=2 prev=null mark=false\ncell 2 Node next=null prev=1 mark=false\nend\n",
         fault: None,
         reached: "12",
         live: 1,
         ends: "1",
     },
     Case {
-        lines: "var x 1\nvar y 3\nvar S {1 2}\ncell 1 Node next=2 prev=null mark=false\ncell 2 Node next=null prev=null mark=false\n\
-            cell 3 Node next=null prev=null mark=false\n",
+        text: "store\nvar x 1\nvar y 3\nvar S {1 2}\ncell 1 Node next=2 prev=null mark=false\ncell 2 Node next=null prev=null mark=false\n\
+            cell 3 Node next=null prev=null mark=false\nend\n",
         fault: Some(CutFault::Field),
         reached: "12",
         live: 2,
         ends: "12",
     },
     Case {
-        lines: "var x 1\nvar y null\nvar S {2}\ncell 1 Node next=null prev=1 mark=false\n",
+        text: "store\nvar x 1\nvar y null\nvar S {2}\ncell 1 Node next=null prev=1 mark=false\nend\n",
         fault: Some(CutFault::Field),
         reached: "1",
         live: 0,
         ends: "",
     },
     Case {
-        lines: "var x 1\nvar y null\nvar S {1 3}\ncell 1 Node next=3 prev=null mark=false\n",
+        text: "store\nvar x 1\nvar y null\nvar S {1 3}\ncell 1 Node next=3 prev=null mark=false\nend\n",
         fault: Some(CutFault::DanglingReference),
         reached: "1",
         live: 1,
         ends: "1",
     },
     Case {
-        lines: "var x 1\nvar y 1\nvar S {}\ncell 1 Node next=3 prev=null mark=false\n",
+        text: "store\nvar x 1\nvar y 1\nvar S {}\ncell 1 Node next=3 prev=null mark=false\nend\n",
         fault: Some(CutFault::DanglingReference),
         reached: "1",
         live: 0,
         ends: "",
     },
     Case {
-        lines: "var x 1\nvar y 1\nvar S {1}\ncell 1 Node next=null prev=null mark=false\n",
+        text: "store\nvar x 1\nvar y 1\nvar S {1}\ncell 1 Node next=null prev=null mark=false\nend\n",
         fault: Some(CutFault::Shared),
         reached: "1",
         live: 1,
         ends: "1",
     },
     Case {
-        lines: "var x 2\nvar y null\nvar S {1 2}\ncell 1 Node next=null prev=1 mark=false\ncell 2 Node next=null prev=2 mark=false\n",
+        text: "store\nvar x 2\nvar y null\nvar S {1 2}\ncell 1 Node next=null prev=1 mark=false\ncell 2 Node next=null prev=2 mark=false\nend\n",
         fault: Some(CutFault::Leak),
         reached: "2",
         live: 2,
         ends: "1",
     },
     Case {
-        lines: "var x 1\nvar y null\nvar S {1 3}\ncell 1 Node next=null prev=null mark=false\n",
+        text: "store\nvar x 1\nvar y null\nvar S {1 3}\ncell 1 Node next=null prev=null mark=false\nend\n",
         fault: None,
         reached: "1",
         live: 1,
         ends: "1",
     },
     Case {
-        lines: "var x 2\nvar y null\nvar S {2}\ncell 1 Node next=2 prev=null mark=false\ncell 2 Node next=null prev=1 mark=false\n",
+        text: "store\nvar x 2\nvar y null\nvar S {2}\ncell 1 Node next=2 prev=null mark=false\ncell 2 Node next=null prev=1 mark=false\nend\n",
         fault: Some(CutFault::Shared),
         reached: "2",
         live: 1,
         ends: "",
     },
     Case {
-        lines: "var x 1\nvar y null\nvar S {1 3}\ncell 1 Node next=2 prev=null mark=false\ncell 2 Node next=3 prev=1 mark=false\n\
-            cell 3 Node next=null prev=2 mark=false\n",
+        text: "store\nvar x 1\nvar y null\nvar S {1 3}\ncell 1 Node next=2 prev=null mark=false\ncell 2 Node next=3 prev=1 mark=false\n\
+            cell 3 Node next=null prev=2 mark=false\nend\n",
         fault: None,
         reached: "123",
         live: 2,
         ends: "1",
     },
     Case {
-        lines: "var x null\nvar y null\nvar S {1 2}\ncell 1 Node next=2 prev=2 mark=false\ncell 2 Node next=1 prev=1 mark=false\n",
+        text: "store\nvar x null\nvar y null\nvar S {1 2}\ncell 1 Node next=2 prev=2 mark=false\ncell 2 Node next=1 prev=1 mark=false\nend\n",
         fault: Some(CutFault::Leak),
         reached: "",
         live: 2,

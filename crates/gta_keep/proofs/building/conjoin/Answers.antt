@@ -23,7 +23,7 @@ returns-clause-ok c =
 pub returns-clause-minimal : goal.returns-clause-minimal
 returns-clause-minimal c =
     IfOk-map _ _ c.minimal_of.result (λ m is f h of_a of_b.
-    is (And f h) (recognises-product c.args.g.now c.spaces.ensures.guide c.args.shelf.now c.pair_up.new.shelf c.in_ok-pairs.pairs c.args.a c.args.b f h
+    is (And f h) (recognises-product c.args.g.now c.pair_up.ensures.guide c.args.shelf.now c.pair_up.new.shelf c.in_ok-pairs.pairs c.args.a c.args.b f h
     of_a of_b c.in_ok-pairs.ensures.product)) c.minimal_of.ensures.minimal
 
 pub returns-clause-err : goal.returns-clause-err
@@ -34,7 +34,7 @@ returns-clause-err c =
 pub returns-clause-limit : goal.returns-clause-limit
 returns-clause-limit c = λ stopped others f h s n m p r holds of_a of_b have has_f has_h has_pairs has_both.
     let g = c.args.g.now in
-    let guide = c.spaces.ensures.guide in
+    let guide = c.pair_up.ensures.guide in
     let was = c.args.shelf.now in
     let now = c.pair_up.new.shelf in
     let pairs = c.in_ok-pairs.pairs in

@@ -23,7 +23,7 @@ returns-clause-ok c =
 pub returns-clause-minimal : goal.returns-clause-minimal
 returns-clause-minimal c =
     IfOk-map _ _ c.minimal_of.result (λ m is f of_a.
-    is (Ex2 c.args.t f) (recognises-subset c.args.g.now c.spaces.ensures.guide c.args.shelf.now c.drop_track.new.shelf c.in_ok-sets.sets c.args.a
+    is (Ex2 c.args.t f) (recognises-subset c.args.g.now c.drop_track.ensures.guide c.args.shelf.now c.drop_track.new.shelf c.in_ok-sets.sets c.args.a
     c.args.t f of_a c.in_ok-sets.ensures.subset)) c.minimal_of.ensures.minimal
 
 pub returns-clause-err : goal.returns-clause-err
@@ -34,7 +34,7 @@ returns-clause-err c =
 pub returns-clause-limit : goal.returns-clause-limit
 returns-clause-limit c = λ stopped others f s n p r holds of_a have has_f has_sets has_whole.
     let g = c.args.g.now in
-    let guide = c.spaces.ensures.guide in
+    let guide = c.drop_track.ensures.guide in
     let was = c.args.shelf.now in
     let now = c.drop_track.new.shelf in
     let sets = c.in_ok-sets.sets in

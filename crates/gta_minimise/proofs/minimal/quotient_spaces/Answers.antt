@@ -10,17 +10,20 @@ use Rattle.gta_minimise.proofs.KeptLemmas.{IsAuto-nodes, IsFormOf-nodes}
 use Rattle.gta_minimise.proofs.PartsLemmas.{AreQuotientSpaces-push}
 use Rattle.gta_minimise.proofs.minimal.quotient_spaces.Goals as goal
 
+pub quotient_space-requires-clause-shelf : goal.quotient_space-requires-clause-shelf
+quotient_space-requires-clause-shelf c = c.loop-space.invariant.adds.now
+
 pub quotient_space-requires-clause-auto : goal.quotient_space-requires-clause-auto
 quotient_space-requires-clause-auto c =
     let so_far = c.loop-space.invariant.adds in
     subst (λ (h : Spaces). IsAuto h c.loop-space.shelf c.args.a.now) (sym c.requires.same.guide)
-    (IsAuto-nodes c.args.shelf.now c.loop-space.shelf c.count.ensures.shelf so_far.keeps so_far.tables c.args.g.now c.args.a.now c.requires.auto)
+    (IsAuto-nodes c.args.shelf.now c.loop-space.shelf c.requires.shelf so_far.keeps so_far.tables c.args.g.now c.args.a.now c.requires.auto)
 
 pub quotient_space-requires-clause-same : goal.quotient_space-requires-clause-same
 quotient_space-requires-clause-same c =
     let so_far = c.loop-space.invariant.adds in
     subst (λ (h : Spaces). IsFormOf h c.loop-space.shelf c.args.a.now c.args.form.now) (sym c.requires.same.guide)
-    (IsFormOf-nodes c.args.shelf.now c.loop-space.shelf c.count.ensures.shelf so_far.keeps so_far.tables c.args.g.now c.args.a.now c.args.form.now
+    (IsFormOf-nodes c.args.shelf.now c.loop-space.shelf c.requires.shelf so_far.keeps so_far.tables c.args.g.now c.args.a.now c.args.form.now
     c.requires.same)
 
 pub quotient_space-requires-clause-inside : goal.quotient_space-requires-clause-inside

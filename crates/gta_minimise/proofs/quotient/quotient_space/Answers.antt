@@ -156,4 +156,4 @@ rename_roots-requires-clause-valid c =
     subst (λ (rs : List NodeRef). All (IsValid c.args.shelf.now) rs) (sym c.as_slice-3.ensures) c.in_ok-pairs.ensures.valid
 
 pub returns-in_err-pairs-clause-adds : goal.returns-in_err-pairs-clause-adds
-returns-in_err-pairs-clause-adds c = Adds-none (IsUnderClasses c.args.form.now c.args.classes.now) c.args.shelf.now c.count.ensures.shelf
+returns-in_err-pairs-clause-adds c = Adds-none (IsUnderClasses c.args.form.now c.args.classes.now) c.args.shelf.now c.requires.shelf

@@ -19,7 +19,7 @@ fill_row-requires-clause-first c = λ column there.
     let row = get_or c.args.rows.now i (0, 0) in
     let joins = c.loop-row.invariant.joins in
     subst (λ (o : Option NodeRef). IsSome o)
-    (sym (root_at-kept c.args.shelf.now c.loop-row.shelf c.count.ensures.shelf joins.keeps joins.tables c.args.a.now c.args.space row.0 column.0))
+    (sym (root_at-kept c.args.shelf.now c.loop-row.shelf c.requires.tables.is_shelf joins.keeps joins.tables c.args.a.now c.args.space row.0 column.0))
     (c.requires.first row column (Contains-get_or c.args.rows.now i (0, 0) (omega arith)) there)
 
 pub fill_row-requires-clause-second : goal.fill_row-requires-clause-second
@@ -28,11 +28,13 @@ fill_row-requires-clause-second c = λ column there.
     let row = get_or c.args.rows.now i (0, 0) in
     let joins = c.loop-row.invariant.joins in
     subst (λ (o : Option NodeRef). IsSome o)
-    (sym (root_at-kept c.args.shelf.now c.loop-row.shelf c.count.ensures.shelf joins.keeps joins.tables c.args.b.now c.args.space row.1 column.1))
+    (sym (root_at-kept c.args.shelf.now c.loop-row.shelf c.requires.tables.is_shelf joins.keeps joins.tables c.args.b.now c.args.space row.1 column.1))
     (c.requires.second row column (Contains-get_or c.args.rows.now i (0, 0) (omega arith)) there)
 
 pub fill_row-requires-clause-tables : goal.fill_row-requires-clause-tables
-fill_row-requires-clause-tables c = AreTables-kept c.args.shelf.now c.loop-row.shelf c.loop-row.invariant.joins.tables
+fill_row-requires-clause-tables c =
+    let done = c.loop-row.invariant.joins in
+    AreTables-kept c.args.shelf.now c.loop-row.shelf done.shelf done.same_limit done.tables
     c.args.a.now c.args.b.now c.args.tables.now c.requires.tables
 
 pub returns-in_err-fill_row-clause-joins : goal.returns-in_err-fill_row-clause-joins
@@ -41,7 +43,7 @@ returns-in_err-fill_row-clause-joins c =
     let row = get_or c.args.rows.now i (0, 0) in
     Joins-next c.args.a.now c.args.b.now c.args.space c.args.rows.now c.args.columns.now (row ∷ []) c.args.columns.now
     (in-alone c.args.rows.now row (Contains-get_or c.args.rows.now i (0, 0) (omega arith))) (λ x there. there)
-    c.args.shelf.now c.loop-row.shelf c.fill_row.new.shelf c.args.numbers.now c.loop-row.numbers c.fill_row.new.numbers c.count.ensures.shelf
+    c.args.shelf.now c.loop-row.shelf c.fill_row.new.shelf c.args.numbers.now c.loop-row.numbers c.fill_row.new.numbers c.requires.tables.is_shelf
     c.loop-row.invariant.joins c.fill_row.ensures.numbers c.fill_row.ensures.joins
 
 pub returns-in_err-fill_row-clause-limit : goal.returns-in_err-fill_row-clause-limit
@@ -50,7 +52,7 @@ returns-in_err-fill_row-clause-limit c = λ stopped given completes.
     let row = get_or c.args.rows.now i (0, 0) in
     ExceedsCells-next c.args.a.now c.args.b.now c.args.space c.args.rows.now c.args.columns.now (row ∷ []) c.args.columns.now
     (in-alone c.args.rows.now row (Contains-get_or c.args.rows.now i (0, 0) (omega arith))) (λ x there. there)
-    c.args.shelf.now c.loop-row.shelf c.fill_row.new.shelf c.args.numbers.now c.loop-row.numbers c.fill_row.new.numbers c.count.ensures.shelf
+    c.args.shelf.now c.loop-row.shelf c.fill_row.new.shelf c.args.numbers.now c.loop-row.numbers c.fill_row.new.numbers c.requires.tables.is_shelf
     c.loop-row.invariant.joins c.fill_row.ensures.numbers c.fill_row.ensures.joins given completes
     (c.fill_row.ensures.limit (let why = rw stopped at c.from_residual.ensures in c.in_err-fill_row.was ∙ (let is = why.1 in cc)) given completes)
 
@@ -65,7 +67,7 @@ loop-row-preserved c =
     let in_rows = in-alone rows row (Contains-get_or rows i (0, 0) (omega arith)) in
     let step = c.fill_row.ensures.joins in
     let same = same-both c.args.a.now c.args.b.now c.args.space rows columns (row ∷ []) columns in_rows (λ x there. there)
-    c.args.shelf.now c.loop-row.shelf c.fill_row.new.shelf c.args.numbers.now c.loop-row.numbers c.fill_row.new.numbers c.count.ensures.shelf
+    c.args.shelf.now c.loop-row.shelf c.fill_row.new.shelf c.args.numbers.now c.loop-row.numbers c.fill_row.new.numbers c.requires.tables.is_shelf
     invariant.joins c.fill_row.ensures.numbers in
     let is = subst (λ (AB : Automaton (ℕ × ℕ)). IsRow AB c.args.space row columns c.fill_row.new.numbers c.fill_row.new.shelf c.loop-row.roots
     c.fill_row.new.roots)
@@ -74,7 +76,7 @@ loop-row-preserved c =
     c.args.roots.now c.loop-row.roots c.fill_row.new.roots step.keeps c.fill_row.ensures.numbers step.extends invariant.cells is in
     record {
       joins = Joins-next c.args.a.now c.args.b.now c.args.space rows columns (row ∷ []) columns in_rows (λ x there. there)
-          c.args.shelf.now c.loop-row.shelf c.fill_row.new.shelf c.args.numbers.now c.loop-row.numbers c.fill_row.new.numbers c.count.ensures.shelf
+          c.args.shelf.now c.loop-row.shelf c.fill_row.new.shelf c.args.numbers.now c.loop-row.numbers c.fill_row.new.numbers c.requires.tables.is_shelf
           invariant.joins c.fill_row.ensures.numbers step;
       cells = subst (λ (ps : List (ℕ × ℕ)). AreCells both c.args.space ps columns c.fill_row.new.numbers c.fill_row.new.shelf c.args.roots.now
           c.fill_row.new.roots)

@@ -20,7 +20,8 @@ join_cell-requires-clause-first c =
     let column = get_or c.args.columns.now i (0, 0) in
     let joins = c.loop-column.invariant.joins in
     subst (λ (o : Option NodeRef). IsSome o)
-    (sym (root_at-kept c.args.shelf.now c.loop-column.shelf c.count.ensures.shelf joins.keeps joins.tables c.args.a.now c.args.space (c.args.row).0 column.0))
+    (sym (root_at-kept c.args.shelf.now c.loop-column.shelf c.requires.tables.is_shelf joins.keeps joins.tables
+    c.args.a.now c.args.space (c.args.row).0 column.0))
     (c.requires.first column (Contains-get_or c.args.columns.now i (0, 0) (omega arith)))
 
 pub join_cell-requires-clause-second : goal.join_cell-requires-clause-second
@@ -29,11 +30,14 @@ join_cell-requires-clause-second c =
     let column = get_or c.args.columns.now i (0, 0) in
     let joins = c.loop-column.invariant.joins in
     subst (λ (o : Option NodeRef). IsSome o)
-    (sym (root_at-kept c.args.shelf.now c.loop-column.shelf c.count.ensures.shelf joins.keeps joins.tables c.args.b.now c.args.space (c.args.row).1 column.1))
+    (sym (root_at-kept c.args.shelf.now c.loop-column.shelf c.requires.tables.is_shelf joins.keeps joins.tables
+    c.args.b.now c.args.space (c.args.row).1 column.1))
     (c.requires.second column (Contains-get_or c.args.columns.now i (0, 0) (omega arith)))
 
 pub join_cell-requires-clause-tables : goal.join_cell-requires-clause-tables
-join_cell-requires-clause-tables c = AreTables-kept c.args.shelf.now c.loop-column.shelf c.loop-column.invariant.joins.tables
+join_cell-requires-clause-tables c =
+    let done = c.loop-column.invariant.joins in
+    AreTables-kept c.args.shelf.now c.loop-column.shelf done.shelf done.same_limit done.tables
     c.args.a.now c.args.b.now c.args.tables.now c.requires.tables
 
 pub returns-in_err-root-clause-joins : goal.returns-in_err-root-clause-joins
@@ -42,7 +46,7 @@ returns-in_err-root-clause-joins c =
     let column = get_or c.args.columns.now i (0, 0) in
     Joins-next c.args.a.now c.args.b.now c.args.space (c.args.row ∷ []) c.args.columns.now (c.args.row ∷ []) (column ∷ [])
     (λ x there. there) (in-alone c.args.columns.now column (Contains-get_or c.args.columns.now i (0, 0) (omega arith)))
-    c.args.shelf.now c.loop-column.shelf c.join_cell.new.shelf c.args.numbers.now c.loop-column.numbers c.join_cell.new.numbers c.count.ensures.shelf
+    c.args.shelf.now c.loop-column.shelf c.join_cell.new.shelf c.args.numbers.now c.loop-column.numbers c.join_cell.new.numbers c.requires.tables.is_shelf
     c.loop-column.invariant.joins c.join_cell.ensures.numbers c.join_cell.ensures.joins
 
 pub returns-in_err-root-clause-limit : goal.returns-in_err-root-clause-limit
@@ -51,7 +55,7 @@ returns-in_err-root-clause-limit c = λ stopped given completes.
     let column = get_or c.args.columns.now i (0, 0) in
     ExceedsCells-next c.args.a.now c.args.b.now c.args.space (c.args.row ∷ []) c.args.columns.now (c.args.row ∷ []) (column ∷ [])
     (λ x there. there) (in-alone c.args.columns.now column (Contains-get_or c.args.columns.now i (0, 0) (omega arith)))
-    c.args.shelf.now c.loop-column.shelf c.join_cell.new.shelf c.args.numbers.now c.loop-column.numbers c.join_cell.new.numbers c.count.ensures.shelf
+    c.args.shelf.now c.loop-column.shelf c.join_cell.new.shelf c.args.numbers.now c.loop-column.numbers c.join_cell.new.numbers c.requires.tables.is_shelf
     c.loop-column.invariant.joins c.join_cell.ensures.numbers c.join_cell.ensures.joins given completes
     (c.join_cell.ensures.limit (let why = rw stopped at c.from_residual.ensures in c.in_err-root.was ∙ (let is = why.1 in cc)) given completes)
 
@@ -61,7 +65,7 @@ returns-in_err-push-clause-joins c =
     let column = get_or c.args.columns.now i (0, 0) in
     Joins-next c.args.a.now c.args.b.now c.args.space (c.args.row ∷ []) c.args.columns.now (c.args.row ∷ []) (column ∷ [])
     (λ x there. there) (in-alone c.args.columns.now column (Contains-get_or c.args.columns.now i (0, 0) (omega arith)))
-    c.args.shelf.now c.loop-column.shelf c.join_cell.new.shelf c.args.numbers.now c.loop-column.numbers c.join_cell.new.numbers c.count.ensures.shelf
+    c.args.shelf.now c.loop-column.shelf c.join_cell.new.shelf c.args.numbers.now c.loop-column.numbers c.join_cell.new.numbers c.requires.tables.is_shelf
     c.loop-column.invariant.joins c.join_cell.ensures.numbers c.join_cell.ensures.joins
 
 pub loop-column-preserved : goal.loop-column-preserved
@@ -74,7 +78,7 @@ loop-column-preserved c =
     let in_columns = in-alone columns column (Contains-get_or columns i (0, 0) (omega arith)) in
     let step = c.join_cell.ensures.joins in
     let same = same-both c.args.a.now c.args.b.now c.args.space (c.args.row ∷ []) columns (c.args.row ∷ []) (column ∷ []) (λ x there. there) in_columns
-    c.args.shelf.now c.loop-column.shelf c.join_cell.new.shelf c.args.numbers.now c.loop-column.numbers c.join_cell.new.numbers c.count.ensures.shelf
+    c.args.shelf.now c.loop-column.shelf c.join_cell.new.shelf c.args.numbers.now c.loop-column.numbers c.join_cell.new.numbers c.requires.tables.is_shelf
     invariant.joins c.join_cell.ensures.numbers in
     let cell = subst (λ (AB : Automaton (ℕ × ℕ)). IsCell AB c.args.space c.join_cell.new.numbers c.args.row column c.join_cell.new.shelf c.in_ok-root.root)
     same c.in_ok-root.ensures.cell in
@@ -84,7 +88,7 @@ loop-column-preserved c =
     let valid = valid-more c.loop-column.shelf c.join_cell.new.shelf c.loop-column.roots c.in_ok-root.root step.keeps invariant.valid cell.valid in
     record {
       joins = Joins-next c.args.a.now c.args.b.now c.args.space (c.args.row ∷ []) columns (c.args.row ∷ []) (column ∷ []) (λ x there. there) in_columns
-          c.args.shelf.now c.loop-column.shelf c.join_cell.new.shelf c.args.numbers.now c.loop-column.numbers c.join_cell.new.numbers c.count.ensures.shelf
+          c.args.shelf.now c.loop-column.shelf c.join_cell.new.shelf c.args.numbers.now c.loop-column.numbers c.join_cell.new.numbers c.requires.tables.is_shelf
           invariant.joins c.join_cell.ensures.numbers step;
       row = subst (λ (roots : List NodeRef). IsRow both c.args.space c.args.row (take (i + 1) columns) c.join_cell.new.numbers
           c.join_cell.new.shelf c.args.roots.now roots)

@@ -13,79 +13,81 @@ use Rattle.gta_product.proofs.growing.grow.Goals as goal
 pub loop-before-init : goal.loop-before-init
 loop-before-init c = record {
   goes = Goes-none c.args.g.now (pairs (automaton_of c.args.shelf.now c.args.a.now) (automaton_of c.args.shelf.now c.args.b.now)) c.args.shelf.now
-      c.args.numbers.now.items;
+      c.args.numbers.now.items c.requires.tables.is_shelf;
   are = c.requires.spaces;
   seen = c.requires.seen;
   fits = c.requires.fits;
 }
 
 pub grow_once-requires-clause-first : goal.grow_once-requires-clause-first
-grow_once-requires-clause-first c = auto-on c.args.g.now c.args.a.now c.args.b.now c.args.shelf.now c.loop-before.shelf c.count.ensures.shelf
+grow_once-requires-clause-first c = auto-on c.args.g.now c.args.a.now c.args.b.now c.args.shelf.now c.loop-before.shelf c.requires.tables.is_shelf
     c.args.numbers.now.items c.loop-before.numbers.items
     c.loop-before.invariant.goes c.args.a.now c.requires.first
 
 pub grow_once-requires-clause-second : goal.grow_once-requires-clause-second
-grow_once-requires-clause-second c = auto-on c.args.g.now c.args.a.now c.args.b.now c.args.shelf.now c.loop-before.shelf c.count.ensures.shelf
+grow_once-requires-clause-second c = auto-on c.args.g.now c.args.a.now c.args.b.now c.args.shelf.now c.loop-before.shelf c.requires.tables.is_shelf
     c.args.numbers.now.items c.loop-before.numbers.items
     c.loop-before.invariant.goes c.args.b.now c.requires.second
 
 pub grow_once-requires-clause-tables : goal.grow_once-requires-clause-tables
-grow_once-requires-clause-tables c = AreTables-kept c.args.shelf.now c.loop-before.shelf c.loop-before.invariant.goes.tables
+grow_once-requires-clause-tables c =
+    let done = c.loop-before.invariant.goes in
+    AreTables-kept c.args.shelf.now c.loop-before.shelf done.shelf done.same_limit done.tables
     c.args.a.now c.args.b.now c.args.tables.now c.requires.tables
 
 pub grow_once-requires-clause-spaces : goal.grow_once-requires-clause-spaces
-grow_once-requires-clause-spaces c = both-on c.args.g.now c.args.a.now c.args.b.now c.args.shelf.now c.loop-before.shelf c.count.ensures.shelf
+grow_once-requires-clause-spaces c = both-on c.args.g.now c.args.a.now c.args.b.now c.args.shelf.now c.loop-before.shelf c.requires.tables.is_shelf
     c.args.numbers.now.items c.loop-before.numbers.items
     c.loop-before.invariant.goes
     (λ (AB : Automaton (ℕ × ℕ)). AreSpaces c.args.g.now AB c.loop-before.numbers.items) c.loop-before.invariant.are
 
 pub grow_once-requires-clause-seen : goal.grow_once-requires-clause-seen
-grow_once-requires-clause-seen c = both-on c.args.g.now c.args.a.now c.args.b.now c.args.shelf.now c.loop-before.shelf c.count.ensures.shelf
+grow_once-requires-clause-seen c = both-on c.args.g.now c.args.a.now c.args.b.now c.args.shelf.now c.loop-before.shelf c.requires.tables.is_shelf
     c.args.numbers.now.items c.loop-before.numbers.items
     c.loop-before.invariant.goes
     (λ (AB : Automaton (ℕ × ℕ)). HaveSeen c.args.g.now AB c.args.a.now c.args.b.now c.loop-before.growths.items) c.loop-before.invariant.seen
 
 pub returns-in_err-grow_once-clause-goes : goal.returns-in_err-grow_once-clause-goes
-returns-in_err-grow_once-clause-goes c = Goes-next c.args.g.now c.args.a.now c.args.b.now c.args.shelf.now c.loop-before.shelf c.count.ensures.shelf
+returns-in_err-grow_once-clause-goes c = Goes-next c.args.g.now c.args.a.now c.args.b.now c.args.shelf.now c.loop-before.shelf c.requires.tables.is_shelf
     c.args.numbers.now.items
     c.loop-before.numbers.items c.loop-before.invariant.goes c.grow_once.new.shelf c.grow_once.new.numbers.items c.grow_once.ensures.goes
 
 pub returns-in_err-after-clause-goes : goal.returns-in_err-after-clause-goes
-returns-in_err-after-clause-goes c = Goes-next c.args.g.now c.args.a.now c.args.b.now c.args.shelf.now c.loop-before.shelf c.count.ensures.shelf
+returns-in_err-after-clause-goes c = Goes-next c.args.g.now c.args.a.now c.args.b.now c.args.shelf.now c.loop-before.shelf c.requires.tables.is_shelf
     c.args.numbers.now.items
     c.loop-before.numbers.items c.loop-before.invariant.goes c.grow_once.new.shelf c.grow_once.new.numbers.items c.grow_once.ensures.goes
 
 pub returns-then-are_same-clause-goes : goal.returns-then-are_same-clause-goes
-returns-then-are_same-clause-goes c = Goes-next c.args.g.now c.args.a.now c.args.b.now c.args.shelf.now c.loop-before.shelf c.count.ensures.shelf
+returns-then-are_same-clause-goes c = Goes-next c.args.g.now c.args.a.now c.args.b.now c.args.shelf.now c.loop-before.shelf c.requires.tables.is_shelf
     c.args.numbers.now.items
     c.loop-before.numbers.items c.loop-before.invariant.goes c.grow_once.new.shelf c.grow_once.new.numbers.items c.grow_once.ensures.goes
 
 pub returns-in_err-grow_once-clause-limit : goal.returns-in_err-grow_once-clause-limit
 returns-in_err-grow_once-clause-limit c = λ stopped. LacksRoom-next c.args.g.now c.args.a.now c.args.b.now c.args.shelf.now c.loop-before.shelf
-    c.count.ensures.shelf c.args.numbers.now.items
+    c.requires.tables.is_shelf c.args.numbers.now.items
     c.loop-before.numbers.items c.loop-before.invariant.goes c.grow_once.new.numbers.items
     (c.grow_once.ensures.limit (let why = rw stopped at c.from_residual-in_err-grow_once.ensures in c.in_err-grow_once.was ∙ (let is = why.1 in cc)))
 
 pub returns-then-are_same-clause-spaces : goal.returns-then-are_same-clause-spaces
-returns-then-are_same-clause-spaces c = both-back c.args.g.now c.args.a.now c.args.b.now c.args.shelf.now c.loop-before.shelf c.count.ensures.shelf
+returns-then-are_same-clause-spaces c = both-back c.args.g.now c.args.a.now c.args.b.now c.args.shelf.now c.loop-before.shelf c.requires.tables.is_shelf
     c.args.numbers.now.items
     c.loop-before.numbers.items c.loop-before.invariant.goes
     (λ (AB : Automaton (ℕ × ℕ)). AreSpaces c.args.g.now AB c.grow_once.new.numbers.items) c.in_ok-grow_once.ensures.spaces
 
 pub returns-then-are_same-clause-seen : goal.returns-then-are_same-clause-seen
-returns-then-are_same-clause-seen c = both-back c.args.g.now c.args.a.now c.args.b.now c.args.shelf.now c.loop-before.shelf c.count.ensures.shelf
+returns-then-are_same-clause-seen c = both-back c.args.g.now c.args.a.now c.args.b.now c.args.shelf.now c.loop-before.shelf c.requires.tables.is_shelf
     c.args.numbers.now.items
     c.loop-before.numbers.items c.loop-before.invariant.goes
     (λ (AB : Automaton (ℕ × ℕ)). HaveSeen c.args.g.now AB c.args.a.now c.args.b.now c.grow_once.new.growths.items) c.in_ok-grow_once.ensures.seen
 
 pub loop-before-preserved : goal.loop-before-preserved
 loop-before-preserved c = record {
-  goes = Goes-next c.args.g.now c.args.a.now c.args.b.now c.args.shelf.now c.loop-before.shelf c.count.ensures.shelf c.args.numbers.now.items
+  goes = Goes-next c.args.g.now c.args.a.now c.args.b.now c.args.shelf.now c.loop-before.shelf c.requires.tables.is_shelf c.args.numbers.now.items
       c.loop-before.numbers.items c.loop-before.invariant.goes c.grow_once.new.shelf c.grow_once.new.numbers.items c.grow_once.ensures.goes;
-  are = both-back c.args.g.now c.args.a.now c.args.b.now c.args.shelf.now c.loop-before.shelf c.count.ensures.shelf c.args.numbers.now.items
+  are = both-back c.args.g.now c.args.a.now c.args.b.now c.args.shelf.now c.loop-before.shelf c.requires.tables.is_shelf c.args.numbers.now.items
       c.loop-before.numbers.items c.loop-before.invariant.goes
       (λ (AB : Automaton (ℕ × ℕ)). AreSpaces c.args.g.now AB c.grow_once.new.numbers.items) c.in_ok-grow_once.ensures.spaces;
-  seen = both-back c.args.g.now c.args.a.now c.args.b.now c.args.shelf.now c.loop-before.shelf c.count.ensures.shelf c.args.numbers.now.items
+  seen = both-back c.args.g.now c.args.a.now c.args.b.now c.args.shelf.now c.loop-before.shelf c.requires.tables.is_shelf c.args.numbers.now.items
       c.loop-before.numbers.items c.loop-before.invariant.goes
       (λ (AB : Automaton (ℕ × ℕ)). HaveSeen c.args.g.now AB c.args.a.now c.args.b.now c.grow_once.new.growths.items) c.in_ok-grow_once.ensures.seen;
   fits = c.in_ok-grow_once.ensures.fits;

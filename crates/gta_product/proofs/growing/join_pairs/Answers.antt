@@ -10,12 +10,19 @@ use Rattle.gta_product.proofs.GrowingLemmas.{on-ok, Goes-fill, AreSpaces-fill, L
 use Rattle.gta_product.proofs.growing.join_pairs.Goals as goal
 
 pub fill-requires-clause-first : goal.fill-requires-clause-first
-fill-requires-clause-first c = λ l r in_l in_r. generated-first c.args.g.now c.args.shelf.now c.args.a.now c.args.b.now c.requires.first c.requires.second
+fill-requires-clause-first c = λ l r in_l in_r. generated-first c.args._g.now c.args.shelf.now c.args.a.now c.args.b.now c.requires.first c.requires.second
     c.args.space c.requires.inside l r (c.requires.rows l in_l) (c.requires.columns r in_r)
 
 pub fill-requires-clause-second : goal.fill-requires-clause-second
-fill-requires-clause-second c = λ l r in_l in_r. generated-second c.args.g.now c.args.shelf.now c.args.a.now c.args.b.now c.requires.first
+fill-requires-clause-second c = λ l r in_l in_r. generated-second c.args._g.now c.args.shelf.now c.args.a.now c.args.b.now c.requires.first
     c.requires.second c.args.space c.requires.inside l r (c.requires.rows l in_l) (c.requires.columns r in_r)
+
+pub fill-requires-clause-numbers : goal.fill-requires-clause-numbers
+fill-requires-clause-numbers c =
+    let s = c.args.space in
+    let pairs = c.index_mut-2.result.now in
+    (c.requires.spaces.each s pairs
+    (get-at c.args.numbers.now.items s pairs (omega (arith, c.requires.spaces.many, c.requires.inside)) c.index_mut-2.ensures.value)).numbers
 
 pub fill-requires-clause-fits : goal.fill-requires-clause-fits
 fill-requires-clause-fits c =
@@ -28,7 +35,7 @@ fill-requires-clause-fits c =
 
 pub returns-clause-goes : goal.returns-clause-goes
 returns-clause-goes c =
-    let g = c.args.g.now in
+    let g = c.args._g.now in
     let s = c.args.space in
     let items = c.args.numbers.now.items in
     let shelf = c.args.shelf.now in
@@ -40,7 +47,7 @@ returns-clause-goes c =
 
 pub returns-clause-spaces : goal.returns-clause-spaces
 returns-clause-spaces c =
-    let g = c.args.g.now in
+    let g = c.args._g.now in
     let s = c.args.space in
     let items = c.args.numbers.now.items in
     let shelf = c.args.shelf.now in
@@ -52,7 +59,7 @@ returns-clause-spaces c =
 
 pub returns-clause-limit : goal.returns-clause-limit
 returns-clause-limit c = λ stopped.
-    let g = c.args.g.now in
+    let g = c.args._g.now in
     let s = c.args.space in
     let items = c.args.numbers.now.items in
     let shelf = c.args.shelf.now in

@@ -141,6 +141,13 @@ fill-requires-clause-second c = λ l r in_l in_r.
     second-known g guide shelf a b c.requires.first c.requires.second items c.requires.spaces s inside lefts rights at_left at_right row.0 column.0
     l r row.1 column.1
 
+pub fill-requires-clause-numbers : goal.fill-requires-clause-numbers
+fill-requires-clause-numbers c =
+    let s = c.args.space in
+    let pairs = c.index_mut-2.result.now in
+    (c.requires.spaces.each s pairs
+    (get-at c.args.numbers.now.items s pairs (omega (arith, c.requires.spaces.many, c.requires.inside)) c.index_mut-2.ensures.value)).numbers
+
 pub fill-requires-clause-fits : goal.fill-requires-clause-fits
 fill-requires-clause-fits c =
     let s = c.args.space in

@@ -7,6 +7,7 @@ use Rattle.gta_theory.specs.Constructions.{pairs}
 use Rattle.gta_core.specs.declared.part.Part.{Part}
 use Rattle.gta_core.specs.Auto.{automaton_of}
 use Rattle.gta_product.specs.Building.{AreSpaces, Building, ExceedsSteps, IsPartOf, AreParts, ExtendAll}
+use Rattle.gta_product.proofs.ProductLemmas.{Building-start}
 use Rattle.gta_product.proofs.ShelfLemmas.{both-kept, auto-kept}
 use Rattle.gta_product.proofs.SameLemmas.{ExtendAll-refl, ExtendAll-trans, both-spaces, AreParts-more, AreParts-none}
 use Rattle.gta_product.proofs.TablesLemmas.{AreTables-kept}
@@ -31,15 +32,20 @@ loop-space-init c = record {
 pub part_of-requires-clause-first : goal.part_of-requires-clause-first
 part_of-requires-clause-first c =
     let inv = c.loop-space.invariant in
-    auto-kept c.args.shelf.now c.loop-space.shelf c.count.ensures.shelf inv.keeps inv.tables c.args.g.now c.args.a.now c.requires.first
+    auto-kept c.args.shelf.now c.loop-space.shelf c.requires.tables.is_shelf inv.keeps inv.tables c.args.g.now c.args.a.now c.requires.first
 
 pub part_of-requires-clause-second : goal.part_of-requires-clause-second
 part_of-requires-clause-second c =
     let inv = c.loop-space.invariant in
-    auto-kept c.args.shelf.now c.loop-space.shelf c.count.ensures.shelf inv.keeps inv.tables c.args.g.now c.args.b.now c.requires.second
+    auto-kept c.args.shelf.now c.loop-space.shelf c.requires.tables.is_shelf inv.keeps inv.tables c.args.g.now c.args.b.now c.requires.second
 
 pub part_of-requires-clause-tables : goal.part_of-requires-clause-tables
-part_of-requires-clause-tables c = AreTables-kept c.args.shelf.now c.loop-space.shelf c.loop-space.invariant.tables
+part_of-requires-clause-tables c =
+    let g = c.args.g.now in
+    let AB = pairs (automaton_of c.args.shelf.now c.args.a.now) (automaton_of c.args.shelf.now c.args.b.now) in
+    let started = Building-start g AB c.args.shelf.now c.args.numbers.now.items c.requires.tables.is_shelf c.requires.spaces in
+    let built = c.loop-space.invariant.building c.args.shelf.now started in
+    AreTables-kept c.args.shelf.now c.loop-space.shelf built.shelf built.same_limit built.tables
     c.args.a.now c.args.b.now c.args.tables.now c.requires.tables
 
 pub part_of-requires-clause-spaces : goal.part_of-requires-clause-spaces
@@ -48,7 +54,7 @@ part_of-requires-clause-spaces c =
     let start_shelf = c.args.shelf.now in
     let inv = c.loop-space.invariant in
     let AB = pairs (automaton_of start_shelf c.args.a.now) (automaton_of start_shelf c.args.b.now) in
-    let same = both-kept start_shelf c.loop-space.shelf c.count.ensures.shelf inv.keeps inv.tables c.args.a.now c.args.b.now in
+    let same = both-kept start_shelf c.loop-space.shelf c.requires.tables.is_shelf inv.keeps inv.tables c.args.a.now c.args.b.now in
     subst (λ (X : Automaton (ℕ × ℕ)). AreSpaces g X c.loop-space.numbers.items) (sym same) inv.are
 
 pub returns-in_err-part-clause-extends : goal.returns-in_err-part-clause-extends
@@ -67,7 +73,7 @@ returns-in_err-part-clause-building c = λ start building.
     let start_shelf = c.args.shelf.now in
     let inv = c.loop-space.invariant in
     let AB = pairs (automaton_of start_shelf c.args.a.now) (automaton_of start_shelf c.args.b.now) in
-    let same = both-kept start_shelf c.loop-space.shelf c.count.ensures.shelf inv.keeps inv.tables c.args.a.now c.args.b.now in
+    let same = both-kept start_shelf c.loop-space.shelf c.requires.tables.is_shelf inv.keeps inv.tables c.args.a.now c.args.b.now in
     subst (λ (X : Automaton (ℕ × ℕ)). Building g X start c.part_of.new.shelf c.part_of.new.numbers.items) same
     (c.part_of.ensures.building start (subst (λ (X : Automaton (ℕ × ℕ)). Building g X start c.loop-space.shelf c.loop-space.numbers.items) (sym
     same) (inv.building start building)))
@@ -88,7 +94,7 @@ returns-in_err-push-clause-building c = λ start building.
     let start_shelf = c.args.shelf.now in
     let inv = c.loop-space.invariant in
     let AB = pairs (automaton_of start_shelf c.args.a.now) (automaton_of start_shelf c.args.b.now) in
-    let same = both-kept start_shelf c.loop-space.shelf c.count.ensures.shelf inv.keeps inv.tables c.args.a.now c.args.b.now in
+    let same = both-kept start_shelf c.loop-space.shelf c.requires.tables.is_shelf inv.keeps inv.tables c.args.a.now c.args.b.now in
     subst (λ (X : Automaton (ℕ × ℕ)). Building g X start c.part_of.new.shelf c.part_of.new.numbers.items) same
     (c.part_of.ensures.building start (subst (λ (X : Automaton (ℕ × ℕ)). Building g X start c.loop-space.shelf c.loop-space.numbers.items) (sym
     same) (inv.building start building)))
@@ -99,7 +105,7 @@ returns-in_err-part-clause-limit c = λ stopped start building given completes.
     let start_shelf = c.args.shelf.now in
     let inv = c.loop-space.invariant in
     let AB = pairs (automaton_of start_shelf c.args.a.now) (automaton_of start_shelf c.args.b.now) in
-    let same = both-kept start_shelf c.loop-space.shelf c.count.ensures.shelf inv.keeps inv.tables c.args.a.now c.args.b.now in
+    let same = both-kept start_shelf c.loop-space.shelf c.requires.tables.is_shelf inv.keeps inv.tables c.args.a.now c.args.b.now in
     subst (λ (X : Automaton (ℕ × ℕ)). ExceedsSteps g X start given) same
     (c.part_of.ensures.limit (let why = rw stopped at c.from_residual.ensures in c.in_err-part.was ∙ (let is = why.1 in cc)) start
     (subst (λ (X : Automaton (ℕ × ℕ)). Building g X start c.loop-space.shelf c.loop-space.numbers.items) (sym same) (inv.building start building))
@@ -111,7 +117,7 @@ loop-space-preserved c =
     let start_shelf = c.args.shelf.now in
     let inv = c.loop-space.invariant in
     let AB = pairs (automaton_of start_shelf c.args.a.now) (automaton_of start_shelf c.args.b.now) in
-    let same = both-kept start_shelf c.loop-space.shelf c.count.ensures.shelf inv.keeps inv.tables c.args.a.now c.args.b.now in
+    let same = both-kept start_shelf c.loop-space.shelf c.requires.tables.is_shelf inv.keeps inv.tables c.args.a.now c.args.b.now in
     let call = c.part_of.ensures in
     let first = c.args.numbers.now.items in
     let extends = ExtendAll-trans first c.loop-space.numbers.items c.part_of.new.numbers.items inv.extends call.extends in

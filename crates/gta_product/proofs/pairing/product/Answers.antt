@@ -19,7 +19,7 @@ from_parts-requires-clause-valid c = c.in_ok-settled.ensures.settled.valid
 pub from_parts-requires-clause-whole : goal.from_parts-requires-clause-whole
 from_parts-requires-clause-whole c = λ table.
     let AB = pairs (automaton_of c.args.shelf.now c.args.a.now) (automaton_of c.args.shelf.now c.args.b.now) in
-    let guide = c.spaces.ensures.guide in
+    let guide = c.settle.ensures.guide in
     let settled = c.in_ok-settled.ensures.settled in
     let now = c.settle.new.shelf in
     let numbers = c.in_ok-settled.settled.numbers.items in
@@ -33,13 +33,13 @@ from_parts-requires-clause-whole c = λ table.
 pub returns-in_err-settled-clause-limit : goal.returns-in_err-settled-clause-limit
 returns-in_err-settled-clause-limit c = λ stopped.
     let exceeded = c.settle.ensures.limit (let why = rw stopped at c.from_residual-in_err-settled.ensures in c.in_err-settled.was ∙ (let is = why.1 in cc)) in
-    limit-product c.args.g.now c.spaces.ensures.guide (automaton_of c.args.shelf.now c.args.a.now) (automaton_of c.args.shelf.now c.args.b.now)
+    limit-product c.args.g.now c.settle.ensures.guide (automaton_of c.args.shelf.now c.args.a.now) (automaton_of c.args.shelf.now c.args.b.now)
     c.requires.first.stable c.requires.second.stable c.args.shelf.now exceeded.spaces exceeded.exceeds
 
 pub returns-clause-auto : goal.returns-clause-auto
 returns-clause-auto c =
     let AB = pairs (automaton_of c.args.shelf.now c.args.a.now) (automaton_of c.args.shelf.now c.args.b.now) in
-    let guide = c.spaces.ensures.guide in
+    let guide = c.settle.ensures.guide in
     let settled = c.in_ok-settled.ensures.settled in
     let now = c.settle.new.shelf in
     let numbers = c.in_ok-settled.settled.numbers.items in
@@ -64,7 +64,7 @@ returns-clause-auto c =
 pub returns-clause-product : goal.returns-clause-product
 returns-clause-product c =
     let AB = pairs (automaton_of c.args.shelf.now c.args.a.now) (automaton_of c.args.shelf.now c.args.b.now) in
-    let guide = c.spaces.ensures.guide in
+    let guide = c.settle.ensures.guide in
     let settled = c.in_ok-settled.ensures.settled in
     let now = c.settle.new.shelf in
     let numbers = c.in_ok-settled.settled.numbers.items in
@@ -94,7 +94,7 @@ returns-clause-product c =
 pub returns-clause-accepts : goal.returns-clause-accepts
 returns-clause-accepts c = λ assignment.
     let AB = pairs (automaton_of c.args.shelf.now c.args.a.now) (automaton_of c.args.shelf.now c.args.b.now) in
-    let guide = c.spaces.ensures.guide in
+    let guide = c.settle.ensures.guide in
     let settled = c.in_ok-settled.ensures.settled in
     let now = c.settle.new.shelf in
     let numbers = c.in_ok-settled.settled.numbers.items in

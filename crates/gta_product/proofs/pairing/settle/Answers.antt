@@ -15,135 +15,146 @@ use Rattle.gta_product.proofs.pairing.settle.Goals as goal
 pub loop-growths-init : goal.loop-growths-init
 loop-growths-init c =
     let AB = pairs (automaton_of c.args.shelf.now c.args.a.now) (automaton_of c.args.shelf.now c.args.b.now) in
-    let are = c.in_ok-numbers.ensures c.args.shelf.now in
+    let are = c.in_ok-numbers.ensures.spaces c.args.shelf.now in
     record {
-      building = Building-start c.args.g.now AB c.args.shelf.now c.in_ok-numbers.numbers.items c.count.ensures.shelf are;
+      building = Building-start c.args.g.now AB c.args.shelf.now c.in_ok-numbers.numbers.items c.requires.tables.is_shelf are;
       fits = c.in_ok-joiners.ensures c.args.shelf.now c.in_ok-numbers.numbers.items are.many;
       seen = c.in_ok-growths.ensures (automaton_of c.args.shelf.now c.args.a.now) (automaton_of c.args.shelf.now c.args.b.now) c.args.a.now c.args.b.now;
     }
 
 pub grow-requires-clause-first : goal.grow-requires-clause-first
 grow-requires-clause-first c =
-    auto-now c.args.g.now c.args.a.now c.args.b.now c.args.shelf.now c.loop-growths.shelf c.count.ensures.shelf c.loop-growths.numbers.items
+    auto-now c.args.g.now c.args.a.now c.args.b.now c.args.shelf.now c.loop-growths.shelf c.requires.tables.is_shelf c.loop-growths.numbers.items
     c.loop-growths.invariant.building c.args.a.now c.requires.first
 
 pub grow-requires-clause-second : goal.grow-requires-clause-second
 grow-requires-clause-second c =
-    auto-now c.args.g.now c.args.a.now c.args.b.now c.args.shelf.now c.loop-growths.shelf c.count.ensures.shelf c.loop-growths.numbers.items
+    auto-now c.args.g.now c.args.a.now c.args.b.now c.args.shelf.now c.loop-growths.shelf c.requires.tables.is_shelf c.loop-growths.numbers.items
     c.loop-growths.invariant.building c.args.b.now c.requires.second
 
 pub grow-requires-clause-tables : goal.grow-requires-clause-tables
-grow-requires-clause-tables c = AreTables-kept c.args.shelf.now c.loop-growths.shelf c.loop-growths.invariant.building.tables
+grow-requires-clause-tables c =
+    let done = c.loop-growths.invariant.building in
+    AreTables-kept c.args.shelf.now c.loop-growths.shelf done.shelf done.same_limit done.tables
     c.args.a.now c.args.b.now c.args.tables.now c.requires.tables
 
 pub grow-requires-clause-spaces : goal.grow-requires-clause-spaces
 grow-requires-clause-spaces c =
-    to-now c.args.g.now c.args.a.now c.args.b.now c.args.shelf.now c.loop-growths.shelf c.count.ensures.shelf c.loop-growths.numbers.items
+    to-now c.args.g.now c.args.a.now c.args.b.now c.args.shelf.now c.loop-growths.shelf c.requires.tables.is_shelf c.loop-growths.numbers.items
     c.loop-growths.invariant.building (λ (AB : Automaton (ℕ × ℕ)). AreSpaces c.args.g.now AB c.loop-growths.numbers.items)
     c.loop-growths.invariant.building.are
 
 pub grow-requires-clause-seen : goal.grow-requires-clause-seen
 grow-requires-clause-seen c =
-    to-now c.args.g.now c.args.a.now c.args.b.now c.args.shelf.now c.loop-growths.shelf c.count.ensures.shelf c.loop-growths.numbers.items
+    to-now c.args.g.now c.args.a.now c.args.b.now c.args.shelf.now c.loop-growths.shelf c.requires.tables.is_shelf c.loop-growths.numbers.items
     c.loop-growths.invariant.building (λ (AB : Automaton (ℕ × ℕ)). HaveSeen c.args.g.now AB c.args.a.now c.args.b.now c.loop-growths.growths.items)
     c.loop-growths.invariant.seen
 
 pub parts_of-requires-clause-first : goal.parts_of-requires-clause-first
 parts_of-requires-clause-first c =
-    let grown = Building-goes c.args.g.now c.args.a.now c.args.b.now c.args.shelf.now c.loop-growths.shelf c.count.ensures.shelf c.loop-growths.numbers.items
+    let grown = Building-goes c.args.g.now c.args.a.now c.args.b.now c.args.shelf.now c.loop-growths.shelf c.requires.tables.is_shelf
+    c.loop-growths.numbers.items
     c.loop-growths.invariant.building
     c.grow.new.shelf c.grow.new.numbers.items c.grow.ensures.goes.building in
-    auto-now c.args.g.now c.args.a.now c.args.b.now c.args.shelf.now c.grow.new.shelf c.count.ensures.shelf c.grow.new.numbers.items grown
+    auto-now c.args.g.now c.args.a.now c.args.b.now c.args.shelf.now c.grow.new.shelf c.requires.tables.is_shelf c.grow.new.numbers.items grown
     c.args.a.now c.requires.first
 
 pub parts_of-requires-clause-second : goal.parts_of-requires-clause-second
 parts_of-requires-clause-second c =
-    let grown = Building-goes c.args.g.now c.args.a.now c.args.b.now c.args.shelf.now c.loop-growths.shelf c.count.ensures.shelf c.loop-growths.numbers.items
+    let grown = Building-goes c.args.g.now c.args.a.now c.args.b.now c.args.shelf.now c.loop-growths.shelf c.requires.tables.is_shelf
+    c.loop-growths.numbers.items
     c.loop-growths.invariant.building
     c.grow.new.shelf c.grow.new.numbers.items c.grow.ensures.goes.building in
-    auto-now c.args.g.now c.args.a.now c.args.b.now c.args.shelf.now c.grow.new.shelf c.count.ensures.shelf c.grow.new.numbers.items grown
+    auto-now c.args.g.now c.args.a.now c.args.b.now c.args.shelf.now c.grow.new.shelf c.requires.tables.is_shelf c.grow.new.numbers.items grown
     c.args.b.now c.requires.second
 
 pub parts_of-requires-clause-tables : goal.parts_of-requires-clause-tables
 parts_of-requires-clause-tables c =
-    let grown = Building-goes c.args.g.now c.args.a.now c.args.b.now c.args.shelf.now c.loop-growths.shelf c.count.ensures.shelf
+    let grown = Building-goes c.args.g.now c.args.a.now c.args.b.now c.args.shelf.now c.loop-growths.shelf c.requires.tables.is_shelf
     c.loop-growths.numbers.items c.loop-growths.invariant.building
     c.grow.new.shelf c.grow.new.numbers.items c.grow.ensures.goes.building in
-    AreTables-kept c.args.shelf.now c.grow.new.shelf grown.tables c.args.a.now c.args.b.now c.args.tables.now c.requires.tables
+    AreTables-kept c.args.shelf.now c.grow.new.shelf grown.shelf grown.same_limit grown.tables c.args.a.now c.args.b.now c.args.tables.now c.requires.tables
 
 pub parts_of-requires-clause-spaces : goal.parts_of-requires-clause-spaces
 parts_of-requires-clause-spaces c =
-    let grown = Building-goes c.args.g.now c.args.a.now c.args.b.now c.args.shelf.now c.loop-growths.shelf c.count.ensures.shelf c.loop-growths.numbers.items
+    let grown = Building-goes c.args.g.now c.args.a.now c.args.b.now c.args.shelf.now c.loop-growths.shelf c.requires.tables.is_shelf
+    c.loop-growths.numbers.items
     c.loop-growths.invariant.building
     c.grow.new.shelf c.grow.new.numbers.items c.grow.ensures.goes.building in
-    to-now c.args.g.now c.args.a.now c.args.b.now c.args.shelf.now c.grow.new.shelf c.count.ensures.shelf c.grow.new.numbers.items grown
+    to-now c.args.g.now c.args.a.now c.args.b.now c.args.shelf.now c.grow.new.shelf c.requires.tables.is_shelf c.grow.new.numbers.items grown
     (λ (AB : Automaton (ℕ × ℕ)). AreSpaces c.args.g.now AB c.grow.new.numbers.items) grown.are
 
 pub returns-in_err-numbers-clause-leaves : goal.returns-in_err-numbers-clause-leaves
 returns-in_err-numbers-clause-leaves c =
-    Leaves-none c.args.shelf.now c.count.ensures.shelf
+    Leaves-none c.args.shelf.now c.requires.tables.is_shelf
 
 pub returns-in_err-joiners-clause-leaves : goal.returns-in_err-joiners-clause-leaves
 returns-in_err-joiners-clause-leaves c =
-    Leaves-none c.args.shelf.now c.count.ensures.shelf
+    Leaves-none c.args.shelf.now c.requires.tables.is_shelf
 
 pub returns-in_err-growths-clause-leaves : goal.returns-in_err-growths-clause-leaves
 returns-in_err-growths-clause-leaves c =
-    Leaves-none c.args.shelf.now c.count.ensures.shelf
+    Leaves-none c.args.shelf.now c.requires.tables.is_shelf
 
 pub returns-in_err-grow-clause-leaves : goal.returns-in_err-grow-clause-leaves
 returns-in_err-grow-clause-leaves c =
-    let grown = Building-goes c.args.g.now c.args.a.now c.args.b.now c.args.shelf.now c.loop-growths.shelf c.count.ensures.shelf c.loop-growths.numbers.items
+    let grown = Building-goes c.args.g.now c.args.a.now c.args.b.now c.args.shelf.now c.loop-growths.shelf c.requires.tables.is_shelf
+    c.loop-growths.numbers.items
     c.loop-growths.invariant.building
     c.grow.new.shelf c.grow.new.numbers.items c.grow.ensures.goes.building in
     Leaves-building _ _ _ _ _ grown
 
 pub returns-in_err-before-clause-leaves : goal.returns-in_err-before-clause-leaves
 returns-in_err-before-clause-leaves c =
-    let grown = Building-goes c.args.g.now c.args.a.now c.args.b.now c.args.shelf.now c.loop-growths.shelf c.count.ensures.shelf c.loop-growths.numbers.items
+    let grown = Building-goes c.args.g.now c.args.a.now c.args.b.now c.args.shelf.now c.loop-growths.shelf c.requires.tables.is_shelf
+    c.loop-growths.numbers.items
     c.loop-growths.invariant.building
     c.grow.new.shelf c.grow.new.numbers.items c.grow.ensures.goes.building in
     Leaves-building _ _ _ _ _ grown
 
 pub returns-in_err-parts-clause-leaves : goal.returns-in_err-parts-clause-leaves
 returns-in_err-parts-clause-leaves c =
-    let grown = Building-goes c.args.g.now c.args.a.now c.args.b.now c.args.shelf.now c.loop-growths.shelf c.count.ensures.shelf c.loop-growths.numbers.items
+    let grown = Building-goes c.args.g.now c.args.a.now c.args.b.now c.args.shelf.now c.loop-growths.shelf c.requires.tables.is_shelf
+    c.loop-growths.numbers.items
     c.loop-growths.invariant.building
     c.grow.new.shelf c.grow.new.numbers.items c.grow.ensures.goes.building in
-    let next = Building-goes c.args.g.now c.args.a.now c.args.b.now c.args.shelf.now c.grow.new.shelf c.count.ensures.shelf c.grow.new.numbers.items grown
+    let next = Building-goes c.args.g.now c.args.a.now c.args.b.now c.args.shelf.now c.grow.new.shelf c.requires.tables.is_shelf c.grow.new.numbers.items grown
     c.parts_of.new.shelf c.parts_of.new.numbers.items c.parts_of.ensures.building in
     Leaves-building _ _ _ _ _ next
 
 pub returns-in_err-after-clause-leaves : goal.returns-in_err-after-clause-leaves
 returns-in_err-after-clause-leaves c =
-    let grown = Building-goes c.args.g.now c.args.a.now c.args.b.now c.args.shelf.now c.loop-growths.shelf c.count.ensures.shelf c.loop-growths.numbers.items
+    let grown = Building-goes c.args.g.now c.args.a.now c.args.b.now c.args.shelf.now c.loop-growths.shelf c.requires.tables.is_shelf
+    c.loop-growths.numbers.items
     c.loop-growths.invariant.building
     c.grow.new.shelf c.grow.new.numbers.items c.grow.ensures.goes.building in
-    let next = Building-goes c.args.g.now c.args.a.now c.args.b.now c.args.shelf.now c.grow.new.shelf c.count.ensures.shelf c.grow.new.numbers.items grown
+    let next = Building-goes c.args.g.now c.args.a.now c.args.b.now c.args.shelf.now c.grow.new.shelf c.requires.tables.is_shelf c.grow.new.numbers.items grown
     c.parts_of.new.shelf c.parts_of.new.numbers.items c.parts_of.ensures.building in
     Leaves-building _ _ _ _ _ next
 
 pub returns-then-are_same-clause-leaves : goal.returns-then-are_same-clause-leaves
 returns-then-are_same-clause-leaves c =
-    let grown = Building-goes c.args.g.now c.args.a.now c.args.b.now c.args.shelf.now c.loop-growths.shelf c.count.ensures.shelf c.loop-growths.numbers.items
+    let grown = Building-goes c.args.g.now c.args.a.now c.args.b.now c.args.shelf.now c.loop-growths.shelf c.requires.tables.is_shelf
+    c.loop-growths.numbers.items
     c.loop-growths.invariant.building
     c.grow.new.shelf c.grow.new.numbers.items c.grow.ensures.goes.building in
-    let next = Building-goes c.args.g.now c.args.a.now c.args.b.now c.args.shelf.now c.grow.new.shelf c.count.ensures.shelf c.grow.new.numbers.items grown
+    let next = Building-goes c.args.g.now c.args.a.now c.args.b.now c.args.shelf.now c.grow.new.shelf c.requires.tables.is_shelf c.grow.new.numbers.items grown
     c.parts_of.new.shelf c.parts_of.new.numbers.items c.parts_of.ensures.building in
     Leaves-building _ _ _ _ _ next
 
 pub returns-in_err-grow-clause-limit : goal.returns-in_err-grow-clause-limit
 returns-in_err-grow-clause-limit c = λ stopped.
-    Exceeded-goes c.args.g.now c.args.a.now c.args.b.now c.args.shelf.now c.loop-growths.shelf c.count.ensures.shelf c.loop-growths.numbers.items
+    Exceeded-goes c.args.g.now c.args.a.now c.args.b.now c.args.shelf.now c.loop-growths.shelf c.requires.tables.is_shelf c.loop-growths.numbers.items
     c.loop-growths.invariant.building c.grow.new.numbers.items
     (c.grow.ensures.limit (let why = rw stopped at c.from_residual-in_err-grow.ensures in c.in_err-grow.was ∙ (let is = why.1 in cc)))
 
 pub returns-in_err-parts-clause-limit : goal.returns-in_err-parts-clause-limit
 returns-in_err-parts-clause-limit c = λ stopped.
-    let grown = Building-goes c.args.g.now c.args.a.now c.args.b.now c.args.shelf.now c.loop-growths.shelf c.count.ensures.shelf c.loop-growths.numbers.items
+    let grown = Building-goes c.args.g.now c.args.a.now c.args.b.now c.args.shelf.now c.loop-growths.shelf c.requires.tables.is_shelf
+    c.loop-growths.numbers.items
     c.loop-growths.invariant.building
     c.grow.new.shelf c.grow.new.numbers.items c.grow.ensures.goes.building in
-    Exceeded-goes c.args.g.now c.args.a.now c.args.b.now c.args.shelf.now c.grow.new.shelf c.count.ensures.shelf c.grow.new.numbers.items grown
+    Exceeded-goes c.args.g.now c.args.a.now c.args.b.now c.args.shelf.now c.grow.new.shelf c.requires.tables.is_shelf c.grow.new.numbers.items grown
     c.parts_of.new.numbers.items (λ start building given completes.
     inl (c.parts_of.ensures.limit (let why = rw stopped at c.from_residual-in_err-parts.ensures in c.in_err-parts.was ∙ (let is = why.1 in cc)) start
     building given completes))
@@ -151,15 +162,16 @@ returns-in_err-parts-clause-limit c = λ stopped.
 pub returns-then-are_same-clause-settled : goal.returns-then-are_same-clause-settled
 returns-then-are_same-clause-settled c =
     let AB = pairs (automaton_of c.args.shelf.now c.args.a.now) (automaton_of c.args.shelf.now c.args.b.now) in
-    let grown = Building-goes c.args.g.now c.args.a.now c.args.b.now c.args.shelf.now c.loop-growths.shelf c.count.ensures.shelf c.loop-growths.numbers.items
+    let grown = Building-goes c.args.g.now c.args.a.now c.args.b.now c.args.shelf.now c.loop-growths.shelf c.requires.tables.is_shelf
+    c.loop-growths.numbers.items
     c.loop-growths.invariant.building
     c.grow.new.shelf c.grow.new.numbers.items c.grow.ensures.goes.building in
-    let next = Building-goes c.args.g.now c.args.a.now c.args.b.now c.args.shelf.now c.grow.new.shelf c.count.ensures.shelf c.grow.new.numbers.items grown
+    let next = Building-goes c.args.g.now c.args.a.now c.args.b.now c.args.shelf.now c.grow.new.shelf c.requires.tables.is_shelf c.grow.new.numbers.items grown
     c.parts_of.new.shelf c.parts_of.new.numbers.items c.parts_of.ensures.building in
     let counted = sym c.in_ok-before.ensures ∙ sym (c.are_same.ensures.0 c.if-are_same.true) ∙ c.in_ok-after.ensures in
     let is : c.grow.new.numbers.items ≡ c.parts_of.new.numbers.items = same-spaces c.grow.new.numbers.items c.parts_of.new.numbers.items
     c.parts_of.ensures.extends counted in
-    let parts = to-first c.args.g.now c.args.a.now c.args.b.now c.args.shelf.now c.grow.new.shelf c.count.ensures.shelf c.grow.new.numbers.items grown
+    let parts = to-first c.args.g.now c.args.a.now c.args.b.now c.args.shelf.now c.grow.new.shelf c.requires.tables.is_shelf c.grow.new.numbers.items grown
     (λ (AB : Automaton (ℕ × ℕ)). AreParts c.args.g.now AB c.args.a.now c.args.b.now c.grow.new.numbers.items c.grow.new.numbers.items
     c.parts_of.new.shelf c.parts_of.new.roots c.in_ok-parts.parts) (c.in_ok-parts.ensures.parts (sym is)) in
     record {
@@ -172,15 +184,16 @@ returns-then-are_same-clause-settled c =
 
 pub loop-growths-preserved : goal.loop-growths-preserved
 loop-growths-preserved c =
-    let grown = Building-goes c.args.g.now c.args.a.now c.args.b.now c.args.shelf.now c.loop-growths.shelf c.count.ensures.shelf c.loop-growths.numbers.items
+    let grown = Building-goes c.args.g.now c.args.a.now c.args.b.now c.args.shelf.now c.loop-growths.shelf c.requires.tables.is_shelf
+    c.loop-growths.numbers.items
     c.loop-growths.invariant.building
     c.grow.new.shelf c.grow.new.numbers.items c.grow.ensures.goes.building in
-    let next = Building-goes c.args.g.now c.args.a.now c.args.b.now c.args.shelf.now c.grow.new.shelf c.count.ensures.shelf c.grow.new.numbers.items grown
+    let next = Building-goes c.args.g.now c.args.a.now c.args.b.now c.args.shelf.now c.grow.new.shelf c.requires.tables.is_shelf c.grow.new.numbers.items grown
     c.parts_of.new.shelf c.parts_of.new.numbers.items c.parts_of.ensures.building in
     record {
       building = next;
       fits = c.in_ok-parts.ensures.fits;
-      seen = to-first c.args.g.now c.args.a.now c.args.b.now c.args.shelf.now c.loop-growths.shelf c.count.ensures.shelf c.loop-growths.numbers.items
+      seen = to-first c.args.g.now c.args.a.now c.args.b.now c.args.shelf.now c.loop-growths.shelf c.requires.tables.is_shelf c.loop-growths.numbers.items
           c.loop-growths.invariant.building (λ (AB : Automaton (ℕ × ℕ)). HaveSeen c.args.g.now AB c.args.a.now c.args.b.now c.grow.new.growths.items)
           c.in_ok-grow.ensures.seen;
     }
@@ -188,10 +201,11 @@ loop-growths-preserved c =
 pub loop-growths-smaller : goal.loop-growths-smaller
 loop-growths-smaller c =
     let most = room-most c.loop-growths.numbers.items c.grow.new.numbers.items c.grow.ensures.goes.extends in
-    let grown = Building-goes c.args.g.now c.args.a.now c.args.b.now c.args.shelf.now c.loop-growths.shelf c.count.ensures.shelf c.loop-growths.numbers.items
+    let grown = Building-goes c.args.g.now c.args.a.now c.args.b.now c.args.shelf.now c.loop-growths.shelf c.requires.tables.is_shelf
+    c.loop-growths.numbers.items
     c.loop-growths.invariant.building
     c.grow.new.shelf c.grow.new.numbers.items c.grow.ensures.goes.building in
-    let next = Building-goes c.args.g.now c.args.a.now c.args.b.now c.args.shelf.now c.grow.new.shelf c.count.ensures.shelf c.grow.new.numbers.items grown
+    let next = Building-goes c.args.g.now c.args.a.now c.args.b.now c.args.shelf.now c.grow.new.shelf c.requires.tables.is_shelf c.grow.new.numbers.items grown
     c.parts_of.new.shelf c.parts_of.new.numbers.items c.parts_of.ensures.building in
     let less = room-less c.grow.new.numbers.items c.parts_of.new.numbers.items c.parts_of.ensures.extends
     (λ s pairs is. ((next.are.each s pairs is).numbers).few) (λ same. false≢true (sym c.if-are_same.false ∙ c.are_same.ensures.1

@@ -8,24 +8,24 @@ use Rattle.gta_product.proofs.tables.root_in.Goals as goal
 
 pub bounds-parts-space : goal.bounds-parts-space
 bounds-parts-space c =
-    let inside = space-known c.args.shelf.now c.args.a.now c.args.space c.args.left c.args.right c.requires.known in
+    let inside = space-known c.args._shelf.now c.args.a.now c.args.space c.args.left c.args.right c.requires.known in
     omega (arith, inside, ap (λ (parts : List Part). length parts) c.parts.ensures.parts)
 
 pub unreachable-requires : goal.unreachable-requires
 unreachable-requires c =
-    let read = root-read c.args.shelf.now c.args.a.now c.args.space c.args.left c.args.right c.requires.known c.parts.result.now c.parts.ensures.parts
+    let read = root-read c.args._shelf.now c.args.a.now c.args.space c.args.left c.args.right c.requires.known c.parts.result.now c.parts.ensures.parts
     c.index-parts-space.result c.index-parts-space.is c.args.table.now c.requires.table in
     false≢true (subst (λ (o : Option NodeRef). IsSome o) (sym read ∙ sym c.root.ensures ∙ c.in-None.is) c.requires.known)
 
 pub returns-clause-value : goal.returns-clause-value
 returns-clause-value c =
-    let read = root-read c.args.shelf.now c.args.a.now c.args.space c.args.left c.args.right c.requires.known c.parts.result.now c.parts.ensures.parts
+    let read = root-read c.args._shelf.now c.args.a.now c.args.space c.args.left c.args.right c.requires.known c.parts.result.now c.parts.ensures.parts
     c.index-parts-space.result c.index-parts-space.is c.args.table.now c.requires.table in
     sym read ∙ sym c.root.ensures ∙ c.in-Some.is
 
 pub returns-clause-valid : goal.returns-clause-valid
 returns-clause-valid c =
-    let read = root-read c.args.shelf.now c.args.a.now c.args.space c.args.left c.args.right c.requires.known c.parts.result.now c.parts.ensures.parts
+    let read = root-read c.args._shelf.now c.args.a.now c.args.space c.args.left c.args.right c.requires.known c.parts.result.now c.parts.ensures.parts
     c.index-parts-space.result c.index-parts-space.is c.args.table.now c.requires.table in
-    root-valid c.args.shelf.now c.count.ensures.shelf c.args.a.now c.args.space c.args.left c.args.right c.in-Some.root
+    root-valid c.args._shelf.now c.requires.shelf c.args.a.now c.args.space c.args.left c.args.right c.in-Some.root
     (sym read ∙ sym c.root.ensures ∙ c.in-Some.is)

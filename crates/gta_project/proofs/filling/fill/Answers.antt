@@ -7,19 +7,19 @@ use Rattle.gta_core.specs.Auto.{automaton_of}
 use Rattle.gta_subsets.specs.Classes.{HaveClasses}
 use Rattle.gta_subsets.specs.Shorts.{rows_in, columns_in, AreShorts}
 use Rattle.gta_project.specs.Filling.{Stepping, IsRow, AreCells}
-use Rattle.gta_project.proofs.ShelfLemmas.{root_at-kept, table_of-kept}
+use Rattle.gta_project.proofs.ShelfLemmas.{root_at-kept, IsTableOf-kept}
 use Rattle.gta_project.proofs.JoinsLemmas.{Joins-none, AreCells-more}
 use Rattle.gta_project.proofs.NextLemmas.{same-step, Joins-next, ExceedsCells-next, in-alone}
 use Rattle.gta_project.proofs.filling.fill.Goals as goal
 
 pub returns-in_err-shorts-clause-joins : goal.returns-in_err-shorts-clause-joins
 returns-in_err-shorts-clause-joins c = Joins-none (set_step (automaton_of c.args.shelf.now c.args.a.now) c.args.track) c.args.space c.args.rows.now
-    c.args.columns.now c.args.shelf.now c.args.numbers.now c.count.ensures.shelf
+    c.args.columns.now c.args.shelf.now c.args.numbers.now c.requires.table.is_shelf
 
 pub fill_row-requires-clause-table : goal.fill_row-requires-clause-table
 fill_row-requires-clause-table c =
     let joins = c.loop-row.invariant.joins in
-    c.requires.table ∙ table_of-kept c.args.shelf.now c.loop-row.shelf c.count.ensures.shelf joins.keeps joins.tables c.args.a.now
+    IsTableOf-kept c.args.shelf.now c.loop-row.shelf joins.shelf joins.tables c.args.a.now c.args.table.now c.requires.table
 
 pub fill_row-requires-clause-short : goal.fill_row-requires-clause-short
 fill_row-requires-clause-short c =
@@ -39,7 +39,7 @@ fill_row-requires-clause-known c = λ column in_columns l r in_l in_r.
     let there : Contains c.args.rows.now row = (i, omega arith, sym is) in
     let joins = c.loop-row.invariant.joins in
     subst (λ (o : Option NodeRef). IsSome o)
-    (sym (root_at-kept c.args.shelf.now c.loop-row.shelf c.count.ensures.shelf joins.keeps joins.tables c.args.a.now c.args.space l r))
+    (sym (root_at-kept c.args.shelf.now c.loop-row.shelf c.requires.table.is_shelf joins.keeps joins.tables c.args.a.now c.args.space l r))
     (c.requires.known row column there in_columns l r in_l in_r)
 
 pub returns-in_err-fill_row-clause-joins : goal.returns-in_err-fill_row-clause-joins
@@ -50,7 +50,7 @@ returns-in_err-fill_row-clause-joins c =
     let there : Contains c.args.rows.now row = (i, omega arith, sym is) in
     Joins-next c.args.a.now c.args.track c.args.space c.args.rows.now c.args.columns.now (row ∷ []) c.args.columns.now
     (in-alone c.args.rows.now row there) (λ x there. there)
-    c.args.shelf.now c.loop-row.shelf c.fill_row.new.shelf c.args.numbers.now c.loop-row.numbers c.fill_row.new.numbers c.count.ensures.shelf
+    c.args.shelf.now c.loop-row.shelf c.fill_row.new.shelf c.args.numbers.now c.loop-row.numbers c.fill_row.new.numbers c.requires.table.is_shelf
     c.loop-row.invariant.joins c.fill_row.ensures.numbers c.fill_row.ensures.joins
 
 pub returns-in_err-fill_row-clause-limit : goal.returns-in_err-fill_row-clause-limit
@@ -61,7 +61,7 @@ returns-in_err-fill_row-clause-limit c = λ stopped given completes.
     let there : Contains c.args.rows.now row = (i, omega arith, sym is) in
     ExceedsCells-next c.args.a.now c.args.track c.args.space c.args.rows.now c.args.columns.now (row ∷ []) c.args.columns.now
     (in-alone c.args.rows.now row there) (λ x there. there)
-    c.args.shelf.now c.loop-row.shelf c.fill_row.new.shelf c.args.numbers.now c.loop-row.numbers c.fill_row.new.numbers c.count.ensures.shelf
+    c.args.shelf.now c.loop-row.shelf c.fill_row.new.shelf c.args.numbers.now c.loop-row.numbers c.fill_row.new.numbers c.requires.table.is_shelf
     c.loop-row.invariant.joins c.fill_row.ensures.numbers c.fill_row.ensures.joins given completes
     (c.fill_row.ensures.limit (let why = rw stopped at c.from_residual-in_err-fill_row.ensures in c.in_err-fill_row.was ∙ (let is = why.1 in cc)) given
     completes)
@@ -79,7 +79,7 @@ loop-row-preserved c =
     let in_rows = in-alone rows row there in
     let step = c.fill_row.ensures.joins in
     let same = same-step c.args.a.now c.args.track c.args.space rows columns (row ∷ []) columns in_rows (λ x there. there)
-    c.args.shelf.now c.loop-row.shelf c.fill_row.new.shelf c.args.numbers.now c.loop-row.numbers c.fill_row.new.numbers c.count.ensures.shelf
+    c.args.shelf.now c.loop-row.shelf c.fill_row.new.shelf c.args.numbers.now c.loop-row.numbers c.fill_row.new.numbers c.requires.table.is_shelf
     invariant.joins c.fill_row.ensures.numbers in
     let filled = subst (λ (Step : Stepping). IsRow Step c.args.space row columns c.fill_row.new.numbers c.fill_row.new.shelf c.loop-row.roots
     c.fill_row.new.roots)
@@ -88,7 +88,7 @@ loop-row-preserved c =
     c.args.roots.now c.loop-row.roots c.fill_row.new.roots step.keeps c.fill_row.ensures.numbers step.extends invariant.cells filled in
     record {
       joins = Joins-next c.args.a.now c.args.track c.args.space rows columns (row ∷ []) columns in_rows (λ x there. there)
-          c.args.shelf.now c.loop-row.shelf c.fill_row.new.shelf c.args.numbers.now c.loop-row.numbers c.fill_row.new.numbers c.count.ensures.shelf
+          c.args.shelf.now c.loop-row.shelf c.fill_row.new.shelf c.args.numbers.now c.loop-row.numbers c.fill_row.new.numbers c.requires.table.is_shelf
           invariant.joins c.fill_row.ensures.numbers step;
       cells = subst (λ (ps : List (List ℕ)). AreCells both c.args.space ps columns c.fill_row.new.numbers c.fill_row.new.shelf c.args.roots.now
           c.fill_row.new.roots)

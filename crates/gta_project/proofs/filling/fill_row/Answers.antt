@@ -7,7 +7,7 @@ use Rattle.bdd_nodes.specs.Shelf.{IsValid}
 use Rattle.gta_subsets.specs.Subsets.{set_step}
 use Rattle.gta_core.specs.Auto.{automaton_of}
 use Rattle.gta_project.specs.Filling.{Stepping, IsCell, IsRow}
-use Rattle.gta_project.proofs.ShelfLemmas.{root_at-kept, table_of-kept}
+use Rattle.gta_project.proofs.ShelfLemmas.{root_at-kept, IsTableOf-kept}
 use Rattle.gta_project.proofs.JoinsLemmas.{IsRow-more}
 use Rattle.gta_project.proofs.NextLemmas.{same-step, Joins-next, ExceedsCells-next, valid-more, in-alone}
 use Rattle.gta_project.proofs.filling.fill_row.Goals as goal
@@ -21,13 +21,13 @@ join_cell-requires-clause-known c = λ l r in_l in_r.
     let there : Contains c.args.columns.now column = (i, omega arith, sym is) in
     let joins = c.loop-at.invariant.joins in
     subst (λ (o : Option NodeRef). IsSome o)
-    (sym (root_at-kept c.args.shelf.now c.loop-at.shelf c.count.ensures.shelf joins.keeps joins.tables c.args.a.now c.args.space l r))
+    (sym (root_at-kept c.args.shelf.now c.loop-at.shelf c.requires.table.is_shelf joins.keeps joins.tables c.args.a.now c.args.space l r))
     (c.requires.known column there l r in_l in_r)
 
 pub join_cell-requires-clause-table : goal.join_cell-requires-clause-table
 join_cell-requires-clause-table c =
     let joins = c.loop-at.invariant.joins in
-    c.requires.table ∙ table_of-kept c.args.shelf.now c.loop-at.shelf c.count.ensures.shelf joins.keeps joins.tables c.args.a.now
+    IsTableOf-kept c.args.shelf.now c.loop-at.shelf joins.shelf joins.tables c.args.a.now c.args.table.now c.requires.table
 
 pub join_cell-requires-clause-rows : goal.join_cell-requires-clause-rows
 join_cell-requires-clause-rows c = c.requires.short
@@ -54,7 +54,7 @@ returns-in_err-root-clause-joins c =
     let there : Contains c.args.columns.now column = (i, omega arith, sym is) in
     Joins-next c.args.a.now c.args.track c.args.space (c.args.row.now ∷ []) c.args.columns.now (c.args.row.now ∷ []) (column ∷ [])
     (λ x there. there) (in-alone c.args.columns.now column there)
-    c.args.shelf.now c.loop-at.shelf c.join_cell.new.shelf c.args.numbers.now c.loop-at.numbers c.join_cell.new.numbers c.count.ensures.shelf
+    c.args.shelf.now c.loop-at.shelf c.join_cell.new.shelf c.args.numbers.now c.loop-at.numbers c.join_cell.new.numbers c.requires.table.is_shelf
     c.loop-at.invariant.joins c.join_cell.ensures.numbers c.join_cell.ensures.joins
 
 pub returns-in_err-root-clause-limit : goal.returns-in_err-root-clause-limit
@@ -66,7 +66,7 @@ returns-in_err-root-clause-limit c = λ stopped given completes.
     let there : Contains c.args.columns.now column = (i, omega arith, sym is) in
     ExceedsCells-next c.args.a.now c.args.track c.args.space (c.args.row.now ∷ []) c.args.columns.now (c.args.row.now ∷ []) (column ∷ [])
     (λ x there. there) (in-alone c.args.columns.now column there)
-    c.args.shelf.now c.loop-at.shelf c.join_cell.new.shelf c.args.numbers.now c.loop-at.numbers c.join_cell.new.numbers c.count.ensures.shelf
+    c.args.shelf.now c.loop-at.shelf c.join_cell.new.shelf c.args.numbers.now c.loop-at.numbers c.join_cell.new.numbers c.requires.table.is_shelf
     c.loop-at.invariant.joins c.join_cell.ensures.numbers c.join_cell.ensures.joins given completes
     (c.join_cell.ensures.limit (let why = rw stopped at c.from_residual.ensures in c.in_err-root.was ∙ (let is = why.1 in cc)) given completes)
 
@@ -79,7 +79,7 @@ returns-in_err-push-clause-joins c =
     let there : Contains c.args.columns.now column = (i, omega arith, sym is) in
     Joins-next c.args.a.now c.args.track c.args.space (c.args.row.now ∷ []) c.args.columns.now (c.args.row.now ∷ []) (column ∷ [])
     (λ x there. there) (in-alone c.args.columns.now column there)
-    c.args.shelf.now c.loop-at.shelf c.join_cell.new.shelf c.args.numbers.now c.loop-at.numbers c.join_cell.new.numbers c.count.ensures.shelf
+    c.args.shelf.now c.loop-at.shelf c.join_cell.new.shelf c.args.numbers.now c.loop-at.numbers c.join_cell.new.numbers c.requires.table.is_shelf
     c.loop-at.invariant.joins c.join_cell.ensures.numbers c.join_cell.ensures.joins
 
 pub loop-at-preserved : goal.loop-at-preserved
@@ -95,7 +95,7 @@ loop-at-preserved c =
     let in_columns = in-alone columns column there in
     let step = c.join_cell.ensures.joins in
     let same = same-step c.args.a.now c.args.track c.args.space (c.args.row.now ∷ []) columns (c.args.row.now ∷ []) (column ∷ []) (λ x there. there) in_columns
-    c.args.shelf.now c.loop-at.shelf c.join_cell.new.shelf c.args.numbers.now c.loop-at.numbers c.join_cell.new.numbers c.count.ensures.shelf
+    c.args.shelf.now c.loop-at.shelf c.join_cell.new.shelf c.args.numbers.now c.loop-at.numbers c.join_cell.new.numbers c.requires.table.is_shelf
     invariant.joins c.join_cell.ensures.numbers in
     let cell = subst (λ (Step : Stepping). IsCell Step c.args.space c.join_cell.new.numbers c.args.row.now column c.join_cell.new.shelf c.in_ok-root.root)
     same c.in_ok-root.ensures.cell in
@@ -105,7 +105,7 @@ loop-at-preserved c =
     let valid = valid-more c.loop-at.shelf c.join_cell.new.shelf c.loop-at.roots c.in_ok-root.root step.keeps invariant.valid cell.valid in
     record {
       joins = Joins-next c.args.a.now c.args.track c.args.space (c.args.row.now ∷ []) columns (c.args.row.now ∷ []) (column ∷ []) (λ x there. there) in_columns
-          c.args.shelf.now c.loop-at.shelf c.join_cell.new.shelf c.args.numbers.now c.loop-at.numbers c.join_cell.new.numbers c.count.ensures.shelf
+          c.args.shelf.now c.loop-at.shelf c.join_cell.new.shelf c.args.numbers.now c.loop-at.numbers c.join_cell.new.numbers c.requires.table.is_shelf
           invariant.joins c.join_cell.ensures.numbers step;
       row = subst (λ (roots : List NodeRef). IsRow both c.args.space c.args.row.now (take (i + 1) columns) c.join_cell.new.numbers
           c.join_cell.new.shelf c.args.roots.now roots)

@@ -14,7 +14,7 @@ use Rattle.gta_project.proofs.growing.join_sets.Goals as goal
 
 pub fill-requires-clause-known : goal.fill-requires-clause-known
 fill-requires-clause-known c = λ row column in_row in_column l r in_l in_r.
-    let g = c.args.g.now in
+    let g = c.args._g.now in
     let s = c.args.space in
     let below = generated-below g c.args.shelf.now c.args.a.now c.requires.auto c.args.track c.args._initials.now c.requires.initials in
     (c.requires.auto.complete s l r).1 (
@@ -24,6 +24,13 @@ fill-requires-clause-known c = λ row column in_row in_column l r in_l in_r.
         below (right g s) column (c.requires.columns column in_column) r in_r,
       ),
     )
+
+pub fill-requires-clause-numbers : goal.fill-requires-clause-numbers
+fill-requires-clause-numbers c =
+    let s = c.args.space in
+    let sets = c.index_mut-2.result.now in
+    (c.requires.spaces.each s sets
+    (get-at c.args.numbers.now.items s sets (omega (arith, c.requires.spaces.many, c.requires.inside)) c.index_mut-2.ensures.value)).numbers
 
 pub fill-requires-clause-fits : goal.fill-requires-clause-fits
 fill-requires-clause-fits c =
@@ -36,7 +43,7 @@ fill-requires-clause-fits c =
 
 pub returns-clause-goes : goal.returns-clause-goes
 returns-clause-goes c =
-    let g = c.args.g.now in
+    let g = c.args._g.now in
     let s = c.args.space in
     let items = c.args.numbers.now.items in
     let shelf = c.args.shelf.now in
@@ -48,7 +55,7 @@ returns-clause-goes c =
 
 pub returns-clause-spaces : goal.returns-clause-spaces
 returns-clause-spaces c =
-    let g = c.args.g.now in
+    let g = c.args._g.now in
     let s = c.args.space in
     let items = c.args.numbers.now.items in
     let shelf = c.args.shelf.now in
@@ -60,7 +67,7 @@ returns-clause-spaces c =
 
 pub returns-clause-limit : goal.returns-clause-limit
 returns-clause-limit c = λ stopped.
-    let g = c.args.g.now in
+    let g = c.args._g.now in
     let s = c.args.space in
     let items = c.args.numbers.now.items in
     let shelf = c.args.shelf.now in

@@ -94,6 +94,13 @@ fill-requires-clause-known c = λ row column in_row in_column l r in_l in_r.
     roots-known g guide shelf a c.requires.auto t initials c.requires.initials items c.requires.spaces s inside lefts rights at_left at_right j.0 k.0
     row column j.1 k.1 l r in_l in_r
 
+pub fill-requires-clause-numbers : goal.fill-requires-clause-numbers
+fill-requires-clause-numbers c =
+    let s = c.args.space in
+    let sets = c.index_mut-2.result.now in
+    (c.requires.spaces.each s sets
+    (get-at c.args.numbers.now.items s sets (omega (arith, c.requires.spaces.many, c.requires.inside)) c.index_mut-2.ensures.value)).numbers
+
 pub fill-requires-clause-fits : goal.fill-requires-clause-fits
 fill-requires-clause-fits c =
     let s = c.args.space in

@@ -7,7 +7,8 @@ use Rattle.gta_subsets.specs.Subsets.{subsets}
 use Rattle.gta_core.specs.declared.part.Part.{Part}
 use Rattle.gta_core.specs.Auto.{automaton_of}
 use Rattle.gta_project.specs.Building.{AreSpaces, Building, ExceedsSteps, IsPartOf, AreParts, ExtendAll}
-use Rattle.gta_project.proofs.ShelfLemmas.{subsets-kept, auto-kept, initial-kept, table_of-kept}
+use Rattle.gta_project.proofs.ProjectLemmas.{Building-start}
+use Rattle.gta_project.proofs.ShelfLemmas.{subsets-kept, auto-kept, initial-kept, IsTableOf-kept}
 use Rattle.gta_project.proofs.SameLemmas.{ExtendAll-refl, ExtendAll-trans, both-spaces, AreParts-more, AreParts-none}
 use Rattle.gta_project.proofs.projecting.parts_of.Goals as goal
 
@@ -29,17 +30,19 @@ loop-space-init c = record {
 pub part_of-requires-clause-auto : goal.part_of-requires-clause-auto
 part_of-requires-clause-auto c =
     let inv = c.loop-space.invariant in
-    auto-kept c.args.shelf.now c.loop-space.shelf c.count.ensures.shelf inv.keeps inv.tables c.args.g.now c.args.a.now c.requires.auto
+    auto-kept c.args.shelf.now c.loop-space.shelf c.requires.table.is_shelf inv.keeps inv.tables c.args.g.now c.args.a.now c.requires.auto
 
 pub part_of-requires-clause-table : goal.part_of-requires-clause-table
 part_of-requires-clause-table c =
-    let inv = c.loop-space.invariant in
-    c.requires.table ∙ table_of-kept c.args.shelf.now c.loop-space.shelf c.count.ensures.shelf inv.keeps inv.tables c.args.a.now
+    let Sets = subsets (automaton_of c.args.shelf.now c.args.a.now) c.args.track c.args.initials.now in
+    let started = Building-start c.args.g.now Sets c.args.shelf.now c.args.numbers.now.items c.requires.table.is_shelf c.requires.spaces in
+    let built = c.loop-space.invariant.building c.args.shelf.now started in
+    IsTableOf-kept c.args.shelf.now c.loop-space.shelf built.shelf built.tables c.args.a.now c.args.table.now c.requires.table
 
 pub part_of-requires-clause-initials : goal.part_of-requires-clause-initials
 part_of-requires-clause-initials c =
     let inv = c.loop-space.invariant in
-    initial-kept c.args.shelf.now c.loop-space.shelf c.count.ensures.shelf inv.keeps inv.tables c.args.g.now c.args.a.now c.args.track
+    initial-kept c.args.shelf.now c.loop-space.shelf c.requires.table.is_shelf inv.keeps inv.tables c.args.g.now c.args.a.now c.args.track
     c.args.initials.now c.requires.initials
 
 pub part_of-requires-clause-spaces : goal.part_of-requires-clause-spaces
@@ -48,7 +51,7 @@ part_of-requires-clause-spaces c =
     let start_shelf = c.args.shelf.now in
     let inv = c.loop-space.invariant in
     let Sets = subsets (automaton_of start_shelf c.args.a.now) c.args.track c.args.initials.now in
-    let same = subsets-kept start_shelf c.loop-space.shelf c.count.ensures.shelf inv.keeps inv.tables c.args.a.now c.args.track c.args.initials.now in
+    let same = subsets-kept start_shelf c.loop-space.shelf c.requires.table.is_shelf inv.keeps inv.tables c.args.a.now c.args.track c.args.initials.now in
     subst (λ (X : Automaton (List ℕ)). AreSpaces g X c.loop-space.numbers.items) (sym same) inv.are
 
 pub returns-in_err-part-clause-extends : goal.returns-in_err-part-clause-extends
@@ -67,7 +70,7 @@ returns-in_err-part-clause-building c = λ start building.
     let start_shelf = c.args.shelf.now in
     let inv = c.loop-space.invariant in
     let Sets = subsets (automaton_of start_shelf c.args.a.now) c.args.track c.args.initials.now in
-    let same = subsets-kept start_shelf c.loop-space.shelf c.count.ensures.shelf inv.keeps inv.tables c.args.a.now c.args.track c.args.initials.now in
+    let same = subsets-kept start_shelf c.loop-space.shelf c.requires.table.is_shelf inv.keeps inv.tables c.args.a.now c.args.track c.args.initials.now in
     subst (λ (X : Automaton (List ℕ)). Building g X start c.part_of.new.shelf c.part_of.new.numbers.items) same
     (c.part_of.ensures.building start (subst (λ (X : Automaton (List ℕ)). Building g X start c.loop-space.shelf c.loop-space.numbers.items) (sym
     same) (inv.building start building)))
@@ -88,7 +91,7 @@ returns-in_err-push-clause-building c = λ start building.
     let start_shelf = c.args.shelf.now in
     let inv = c.loop-space.invariant in
     let Sets = subsets (automaton_of start_shelf c.args.a.now) c.args.track c.args.initials.now in
-    let same = subsets-kept start_shelf c.loop-space.shelf c.count.ensures.shelf inv.keeps inv.tables c.args.a.now c.args.track c.args.initials.now in
+    let same = subsets-kept start_shelf c.loop-space.shelf c.requires.table.is_shelf inv.keeps inv.tables c.args.a.now c.args.track c.args.initials.now in
     subst (λ (X : Automaton (List ℕ)). Building g X start c.part_of.new.shelf c.part_of.new.numbers.items) same
     (c.part_of.ensures.building start (subst (λ (X : Automaton (List ℕ)). Building g X start c.loop-space.shelf c.loop-space.numbers.items) (sym
     same) (inv.building start building)))
@@ -99,7 +102,7 @@ returns-in_err-part-clause-limit c = λ stopped start building given completes.
     let start_shelf = c.args.shelf.now in
     let inv = c.loop-space.invariant in
     let Sets = subsets (automaton_of start_shelf c.args.a.now) c.args.track c.args.initials.now in
-    let same = subsets-kept start_shelf c.loop-space.shelf c.count.ensures.shelf inv.keeps inv.tables c.args.a.now c.args.track c.args.initials.now in
+    let same = subsets-kept start_shelf c.loop-space.shelf c.requires.table.is_shelf inv.keeps inv.tables c.args.a.now c.args.track c.args.initials.now in
     subst (λ (X : Automaton (List ℕ)). ExceedsSteps g X start given) same
     (c.part_of.ensures.limit (let why = rw stopped at c.from_residual.ensures in c.in_err-part.was ∙ (let is = why.1 in cc)) start
     (subst (λ (X : Automaton (List ℕ)). Building g X start c.loop-space.shelf c.loop-space.numbers.items) (sym same) (inv.building start building))
@@ -111,7 +114,7 @@ loop-space-preserved c =
     let start_shelf = c.args.shelf.now in
     let inv = c.loop-space.invariant in
     let Sets = subsets (automaton_of start_shelf c.args.a.now) c.args.track c.args.initials.now in
-    let same = subsets-kept start_shelf c.loop-space.shelf c.count.ensures.shelf inv.keeps inv.tables c.args.a.now c.args.track c.args.initials.now in
+    let same = subsets-kept start_shelf c.loop-space.shelf c.requires.table.is_shelf inv.keeps inv.tables c.args.a.now c.args.track c.args.initials.now in
     let call = c.part_of.ensures in
     let first = c.args.numbers.now.items in
     let extends = ExtendAll-trans first c.loop-space.numbers.items c.part_of.new.numbers.items inv.extends call.extends in

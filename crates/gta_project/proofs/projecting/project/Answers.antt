@@ -27,7 +27,7 @@ from_parts-requires-clause-whole c = λ table.
     let shelf = c.args.shelf.now in
     let a = c.args.a.now in
     let t = (c.args.t).0 in
-    let guide = c.spaces.ensures.guide in
+    let guide = c.settle.ensures.guide in
     let initials = c.as_slice.result.now in
     let are_initial = subst (AreInitial c.args.g.now (automaton_of shelf a) t) (sym c.as_slice.ensures) c.in_ok-initials.ensures in
     let settled = c.in_ok-settled.ensures.settled in
@@ -45,7 +45,7 @@ returns-in_err-settled-clause-limit c = λ stopped.
     let are_initial = subst (AreInitial c.args.g.now (automaton_of c.args.shelf.now c.args.a.now) (c.args.t).0) (sym c.as_slice.ensures)
     c.in_ok-initials.ensures in
     let exceeded = c.settle.ensures.limit (let why = rw stopped at c.from_residual-in_err-settled.ensures in c.in_err-settled.was ∙ (let is = why.1 in cc)) in
-    limit-subset c.args.g.now c.spaces.ensures.guide (automaton_of c.args.shelf.now c.args.a.now) c.requires.stable (c.args.t).0
+    limit-subset c.args.g.now c.settle.ensures.guide (automaton_of c.args.shelf.now c.args.a.now) c.requires.stable (c.args.t).0
     c.as_slice.result.now are_initial c.args.shelf.now exceeded.spaces exceeded.exceeds
 
 pub returns-clause-auto : goal.returns-clause-auto
@@ -53,7 +53,7 @@ returns-clause-auto c =
     let shelf = c.args.shelf.now in
     let a = c.args.a.now in
     let t = (c.args.t).0 in
-    let guide = c.spaces.ensures.guide in
+    let guide = c.settle.ensures.guide in
     let initials = c.as_slice.result.now in
     let are_initial = subst (AreInitial c.args.g.now (automaton_of shelf a) t) (sym c.as_slice.ensures) c.in_ok-initials.ensures in
     let settled = c.in_ok-settled.ensures.settled in
@@ -81,7 +81,7 @@ returns-clause-subset c =
     let shelf = c.args.shelf.now in
     let a = c.args.a.now in
     let t = (c.args.t).0 in
-    let guide = c.spaces.ensures.guide in
+    let guide = c.settle.ensures.guide in
     let initials = c.as_slice.result.now in
     let are_initial = subst (AreInitial c.args.g.now (automaton_of shelf a) t) (sym c.as_slice.ensures) c.in_ok-initials.ensures in
     let settled = c.in_ok-settled.ensures.settled in
@@ -114,7 +114,7 @@ returns-clause-accepts c = λ depth assignment covers.
     let shelf = c.args.shelf.now in
     let a = c.args.a.now in
     let t = (c.args.t).0 in
-    let guide = c.spaces.ensures.guide in
+    let guide = c.settle.ensures.guide in
     let initials = c.as_slice.result.now in
     let are_initial = subst (AreInitial c.args.g.now (automaton_of shelf a) t) (sym c.as_slice.ensures) c.in_ok-initials.ensures in
     let settled = c.in_ok-settled.ensures.settled in

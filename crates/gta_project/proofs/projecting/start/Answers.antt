@@ -47,8 +47,8 @@ loop-space-preserved c =
           ];
     }
 
-pub returns : goal.returns
-returns c = λ A track. record {
+pub returns-clause-spaces : goal.returns-clause-spaces
+returns-clause-spaces c = λ A track. record {
   many = let m = c.loop-space.invariant.many in let e = c.spaces-space-end.ensures.value in omega arith;
   each = λ s numbers there. c.loop-space.invariant.each A track s numbers there;
 }

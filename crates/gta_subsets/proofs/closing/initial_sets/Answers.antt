@@ -13,7 +13,7 @@ loop-sets-preserved c = AreSettled-next c.args.g.now (automaton_of c.args.shelf.
     c.loop-sets.invariant
     (subst (λ (before : List (List ℕ)). AreNext c.args.g.now (automaton_of c.args.shelf.now c.args.a.now) c.args.track before c.in_ok-next.next)
     c.as_slice.ensures
-    c.in_ok-next.ensures)
+    c.in_ok-next.ensures.next)
 
 pub next_sets-requires-clause-settled : goal.next_sets-requires-clause-settled
 next_sets-requires-clause-settled c = subst (AreSettled c.args.g.now (automaton_of c.args.shelf.now c.args.a.now) c.args.track) (sym c.as_slice.ensures)
@@ -25,6 +25,6 @@ returns-then-are_same c =
     let same : c.in_ok-next.next ≡ c.loop-sets.sets = sym c.as_slice-in-loop-sets.ensures ∙ c.are_same.ensures c.if-are_same.true ∙
     c.as_slice-in-loop-sets-2.ensures in
     let next = subst (λ (before : List (List ℕ)). AreNext c.args.g.now A c.args.track before c.in_ok-next.next) (c.as_slice.ensures ∙ sym same)
-    c.in_ok-next.ensures in
-    AreInitial-next c.args.g.now A c.args.track c.spaces.ensures.guide c.in_ok-next.next next
+    c.in_ok-next.ensures.next in
+    AreInitial-next c.args.g.now A c.args.track c.next_sets.ensures.guide c.in_ok-next.next next
     (subst (AreSettled c.args.g.now A c.args.track) (sym same) c.loop-sets.invariant)

@@ -9,7 +9,7 @@ use Rattle.whole_handing.proofs.Merging.{AreMerged, none_merged, merged_first, m
 use Rattle.whole_handing.proofs.beside.all_cells.Goals as goal
 
 pub loop-next-init : goal.loop-next-init
-loop-next-init c = subst (AreMerged c.args.one.now c.args.other.now 0 0) (sym c.new-made.ensures.items) (none_merged c.args.one.now c.args.other.now)
+loop-next-init c = subst (AreMerged c.args.one.now c.args.other.now 0 0) (sym c.in_ok-made.ensures.items) (none_merged c.args.one.now c.args.other.now)
 
 pub loop-next-preserved-in-First : goal.loop-next-preserved-in-First
 loop-next-preserved-in-First c =

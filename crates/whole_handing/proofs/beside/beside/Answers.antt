@@ -1,13 +1,19 @@
-use Rattle.std.proofs.Common.{◌∙◌, sym, subst}
-use Rattle.store_core.specs.StoreBodies.{IsKept}
+use Rattle.std.proofs.Common.{◌≡◌, ◌≤◌, ◌∙◌, ℕ, max, arith, ap}
 use Rattle.whole_handing.proofs.Merging.{all_kept, all_is}
 use Rattle.whole_handing.proofs.beside.beside.Goals as goal
 
--- the clauses of the two next numbers: that of the other store is called first
+-- the greater of the two next numbers
+greater : (one other next own theirs : ℕ) → own ≡ one → theirs ≡ other → next ≡ max own theirs → next ≡ max one other
+greater one other next own theirs is is' e = e ∙ ap (λ (n : ℕ). max n theirs) is ∙ ap (λ (n : ℕ). max one n) is'
+
 pub of-requires-clause-kept : goal.of-requires-clause-kept
 of-requires-clause-kept c =
-    subst (IsKept c.in_ok-made.made.items) (sym c.next-2.ensures.value)
-    (all_kept c.args.one.now c.args.other.now c.in_ok-made.made.items c.in_ok-made.ensures c.next-2.ensures.above c.next.ensures.above c.requires.later)
+    let one = c.args.one.now in
+    let other = c.args.other.now in
+    let same = greater one.next other.next c.max-next.result c.next.result c.next-2.result c.next.ensures.value c.next-2.ensures.value c.max-next.ensures in
+    let own : one.next ≤ c.max-next.result = omega (arith, same) in
+    let theirs : other.next ≤ c.max-next.result = omega (arith, same) in
+    all_kept one other c.in_ok-made.made.items c.in_ok-made.ensures c.next.ensures.above c.next-2.ensures.above c.max-next.result own theirs
 
 pub of-requires-clause-live : goal.of-requires-clause-live
 of-requires-clause-live c = c.in_ok-made.ensures.live
@@ -18,5 +24,6 @@ returns c =
     ∙ (λ i. record {
       cells = all_is c.args.one.now c.args.other.now c.in_ok-made.made.items c.in_ok-made.ensures i;
       vars = c.args.vars;
-      next = c.next-2.ensures.value i;
+      next = greater (c.args.one.now).next (c.args.other.now).next c.max-next.result c.next.result c.next-2.result c.next.ensures.value
+          c.next-2.ensures.value c.max-next.ensures i;
     })

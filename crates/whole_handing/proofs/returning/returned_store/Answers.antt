@@ -1,4 +1,4 @@
-use Rattle.std.proofs.Common.{◌≡◌, ◌∙◌, ◌++◌, List, IfOk, length, ap, subst}
+use Rattle.std.proofs.Common.{◌≡◌, ◌∙◌, ◌++◌, ℕ, max, arith, List, IfOk, length, ap, subst}
 use Rattle.std.specs.List.{range_with_len}
 use Rattle.std.specs.FinMap.{entries, from_entries}
 use Rattle.std.proofs.lemmas.List.{length-map}
@@ -20,10 +20,12 @@ restricted-requires c =
 
 pub returns : goal.returns
 returns c =
-    let made : List Value → StoreMap = λ values. record {
+    let made : List Value → ℕ → StoreMap = λ values next. record {
       cells = from_entries (entries c.args.exited.now.cells ++ entries c.args.rest.now.cells);
       vars = values;
-      next = c.args.exited.now.next;
+      next = next;
     } in
-    subst (λ (s : StoreMap). IfOk c.restricted.result (λ after. after ≡ restricted s)) (c.in_ok-both.ensures ∙ ap made c.in_ok-values.ensures)
-    c.restricted.ensures
+    let exited = (c.args.exited.now).next in
+    let later : max exited (c.args.rest.now).next ≡ exited = omega (arith, c.requires.later) in
+    let both = c.in_ok-both.ensures ∙ ap (made c.in_ok-values.values) later ∙ ap (λ (values : List Value). made values exited) c.in_ok-values.ensures in
+    subst (λ (s : StoreMap). IfOk c.restricted.result (λ after. after ≡ restricted s)) both c.restricted.ensures

@@ -4,7 +4,7 @@ ghost use Rattle.std.specs.Prelude.{◌<◌, length};
 
 use pale_parse::parse;
 use pale_text::{TextStop, lex};
-use pale_typed::Typed;
+use pale_typed::{Typed, TypedProc};
 use pale_types::check_types;
 use std::alloc::{AllocError, Global};
 use std::test::Fail;
@@ -113,17 +113,22 @@ fn read(alloc: Global, text: &[u8]) -> Result<Typed, TextStop>
     check_types(alloc, &program)
 }
 
+/// Whether this is how a procedure is printed for debugging.
+fn is_shown(alloc: Global, procedure: &TypedProc, want: &str) -> Result<bool, AllocError> {
+    let tree = format!(in alloc; "{procedure:?}")?;
+    Ok(tree.as_str() == want)
+}
+
 /// Whether this is how a text's first procedure is printed for debugging.
 fn is_tree(alloc: Global, text: &[u8], want: &str) -> Result<bool, TextStop> {
     if text.len() >= 1000 {
         return Ok(false);
     }
     let typed = read(alloc, text)?;
-    let Some(procedure) = typed.proc(0) else {
-        return Ok(false);
-    };
-    let tree = format!(in alloc; "{procedure:?}")?;
-    Ok(tree.as_str() == want)
+    match typed.proc(0) {
+        Some(procedure) => Ok(is_shown(alloc, procedure, want)?),
+        None => Ok(false),
+    }
 }
 
 #[test]
