@@ -6,4 +6,5 @@ mod joining;
 mod terms;
 mod whole;
 
+pub use terms::value_of;
 pub use whole::assertion_formula;

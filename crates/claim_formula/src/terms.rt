@@ -18,7 +18,7 @@ use ws2s_core::{Formula, Track};
 use ws2s_forms::{ex1, false_at, later, target};
 
 /// What stands for a variable.
-fn value_of(values: &[Sym], v: VarId) -> Sym
+pub fn value_of(values: &[Sym], v: VarId) -> Sym
     ensures { result ≡ states.value_of values.now v }
 {
     match at(values, v.0 as usize) {

@@ -2,5 +2,4 @@ pub mod ActLemmas
 pub mod ClaimLemmas
 pub mod CutLemmas
 pub mod CodeLemmas
-pub mod BindingLemmas
 pub mod FormulaLemmas

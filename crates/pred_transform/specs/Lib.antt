@@ -1,4 +1,2 @@
 pub mod Forks
-pub mod Free
 pub mod Holding
-pub mod Starts

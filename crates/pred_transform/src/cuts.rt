@@ -11,9 +11,9 @@ ghost use Rattle.site_list.specs.Cuts as cuts;
 ghost use Rattle.symbolic_steps.specs.Shown.{checked, shown, Leads};
 ghost use Rattle.pred_transform.specs.Holding.{claims_hold};
 
-use crate::claims::{claims, escapes};
 use graph_type::{closes, cut_formula};
 use graph_view::{CutCheck, Sym, SymList, View};
+use start_formula::{claims, escapes};
 use std::alloc::{AllocError, Global};
 use store_core::VarId;
 use store_exec::{Claim, Cut};

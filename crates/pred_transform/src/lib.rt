@@ -6,8 +6,6 @@
 #![tactic(auto)]
 
 mod acts;
-mod binding;
-mod claims;
 mod codes;
 mod cuts;
 mod formula;

@@ -3,7 +3,7 @@ use Rattle.std.proofs.Common.{◌≡◌, ℕ, ◌+◌, List, [], ◌∷◌, ◌+
 use Rattle.std.proofs.lemmas.List.{reverse-append, length-reverse}
 use Rattle.ws2s_core.specs.declared.formula.Formula.{Formula}
 use Rattle.site_list.specs.Triples.{bind}
-use Rattle.pred_transform.specs.Free.{bound_once}
+use Rattle.start_formula.specs.Free.{bound_once}
 
 -- the last one is bound first
 pub bind-last : (first : ℕ) (whole before : List Formula) (d : Formula) (track : ℕ) (f bound : Formula) → whole ≡ before ++ d ∷ [] →

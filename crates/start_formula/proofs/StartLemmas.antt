@@ -1,13 +1,10 @@
--- The formula of a place from what the walk keeps.
-use Rattle.std.proofs.Common.{◌≡◌, ℕ, ◌+◌, List, [], ◌∷◌, ◌++◌, length, map, reverse, slice_get, Option, Some, None, option_map}
-use Rattle.std.proofs.Common.{refl, sym, ap, ◌∙◌, append_assoc}
-use Rattle.std.proofs.lemmas.List.{length-map}
-use Rattle.std.specs.Option.{option_map_or}
+-- What holds at a triple's start, and the parts of a site's formula.
+use Rattle.std.proofs.Common.{◌≡◌, ℕ, ◌+◌, List, [], ◌∷◌, ◌++◌, map, reverse, Option, None}
+use Rattle.std.proofs.Common.{ap, ◌∙◌, append_assoc}
 use Rattle.store_core.specs.declared.ids.VarId.{VarId}
 use Rattle.store_core.specs.Tables.{TypeEntry, VarEntry}
 use Rattle.store_exec.specs.declared.triple.Claim.{Claim}
 use Rattle.store_exec.specs.declared.triple.Start.{Start}
-use Rattle.store_exec.specs.declared.triple.Triple.{Triple}
 use Rattle.ws2s_core.specs.declared.formula.Formula.{Formula}
 use Rattle.ws2s_core.specs.declared.track.Track.{Track}
 use Rattle.ws2s_forms.specs.Forms.{empty_at}
@@ -15,14 +12,11 @@ use Rattle.tree_encode.specs.Tracks.{track_count, var_track}
 use Rattle.tree_formula.specs.WellEncoded.{track_or_first, well_encoded}
 use Rattle.graph_view.specs.declared.view.View.{View}
 use Rattle.graph_view.specs.Sights.{sight_of}
-use Rattle.site_list.specs.States.{Text, Check, State, sight}
+use Rattle.site_list.specs.States.{sight}
 use Rattle.site_list.specs.Claims.{claim}
-use Rattle.site_list.specs.Cuts.{with_part}
 use Rattle.site_list.specs.Triples as triples
-use Rattle.site_list.specs.Triples.{at_start, started, walked, bind, returned_part, start_holds, first_bound, site_formula, site_formula_at}
-use Rattle.symbolic_steps.specs.declared.walker.Walker.{Walker}
-use Rattle.symbolic_steps.specs.Shown.{place_formula, written, shown}
-use Rattle.pred_transform.specs.Starts.{own_values, pointers_stay, site_of_place}
+use Rattle.site_list.specs.Triples.{at_start, bind, returned_part, start_holds}
+use Rattle.start_formula.specs.Starts.{own_values, pointers_stay}
 
 -- the parts of a site's formula, one after the other
 pub parts-placed : (tree a b : Formula) (xs p1 p2 p3 : List Formula) → p1 ≡ (tree ∷ []) ++ xs → p2 ≡ p1 ++ a ∷ [] → p3 ≡ p2 ++ b ∷ [] →
@@ -33,17 +27,6 @@ parts-placed tree a b xs p1 p2 p3 one two three =
 
 module _ (types : List TypeEntry) (vars : List VarEntry) (start : Start) where
   -- ---- the start
-
-  abbrev started_by : Option (List VarId) → State
-  started_by o = option_map_or (λ roots. with_part types vars roots (at_start types vars)) o (at_start types vars)
-
-  pub started-returned : (next wanted : ℕ) (roots : List VarId) (w : Walker) → start.returned ≡ Some roots →
-      w ≡ shown next wanted (with_part types vars roots (at_start types vars)) → w ≡ shown next wanted (started types vars start)
-  started-returned next wanted roots w returned is = is ∙ ap (λ o. shown next wanted (started_by o)) (sym returned)
-
-  pub started-plain : (next wanted : ℕ) (w : Walker) → start.returned ≡ None → w ≡ shown next wanted (at_start types vars) →
-      w ≡ shown next wanted (started types vars start)
-  started-plain next wanted w returned is = is ∙ ap (λ o. shown next wanted (started_by o)) (sym returned)
 
   -- the claims on a view, and that no pointer is astray there
   abbrev parts_on : Option Track → View → List Claim → List VarId → List Formula
@@ -85,39 +68,3 @@ module _ (types : List TypeEntry) (vars : List VarEntry) (start : Start) where
       ∙ ap (λ (f : Formula). well_encoded next types vars
       ∷ (emptied next start.nulls ++ bind (track_count types vars) (reverse defined) (start_holds types vars start next) ∷ f ∷ []))
       (others ∙ ap (λ (n : ℕ). bind n (reverse defined) place) second)
-
-module _ (types : List TypeEntry) (vars : List VarEntry) (t : Triple) where
-  -- the first walk tells where quantifiers begin
-  pub first-told : (site next : ℕ) (first : Walker) → first ≡ shown 0 site (walked types vars t) → next ≡ track_count types vars + length first.defined →
-      next ≡ first_bound types vars (walked types vars t)
-  first-told site next first is told =
-      told ∙ ap (λ (n : ℕ). track_count types vars + n)
-      (ap (λ (w : Walker). length w.defined) is ∙ length-map (walked types vars t).defined (λ (text : Text). text 0))
-
-  -- from a place that was found, or not
-  placed : (next : ℕ) (s : State) (place : Formula) (o : Option Check) → option_map (place_formula next) o ≡ Some place →
-      Some (site_of_place types vars t.start (written next s.defined) next place) ≡ option_map (site_formula_at types vars t s next) o
-  placed next s place None e = absurd cc
-  placed next s place (Some c) e =
-      let same : place ≡ place_formula next c = cc in
-      ap (λ (f : Formula). Some (site_of_place types vars t.start (written next s.defined) next f)) same
-
-  not-placed : (next : ℕ) (s : State) (o : Option Check) → option_map (place_formula next) o ≡ None → None ≡ option_map (site_formula_at types vars t s next) o
-  not-placed next s None e = refl
-  not-placed next s (Some c) e = absurd cc
-
-  pub site-found : (site next : ℕ) (w : Walker) (place formula : Formula) → next ≡ first_bound types vars (walked types vars t) →
-      w ≡ shown next site (walked types vars t) → w.found ≡ Some place → formula ≡ site_of_place types vars t.start w.defined next place →
-      Some formula ≡ site_formula types vars t site
-  site-found site next w place formula first is found made =
-      let s : State = walked types vars t in
-      ap Some (made ∙ ap (λ (v : Walker). site_of_place types vars t.start v.defined next place) is)
-      ∙ placed next s place (slice_get s.checks site) (sym (ap (λ (v : Walker). v.found) is) ∙ found)
-      ∙ ap (λ (n : ℕ). option_map (site_formula_at types vars t s n) (slice_get s.checks site)) first
-
-  pub site-not-found : (site next : ℕ) (w : Walker) → next ≡ first_bound types vars (walked types vars t) →
-      w ≡ shown next site (walked types vars t) → w.found ≡ None → None ≡ site_formula types vars t site
-  site-not-found site next w first is found =
-      let s : State = walked types vars t in
-      not-placed next s (slice_get s.checks site) (sym (ap (λ (v : Walker). v.found) is) ∙ found)
-      ∙ ap (λ (n : ℕ). option_map (site_formula_at types vars t s n) (slice_get s.checks site)) first

@@ -4,7 +4,7 @@ ghost use Rattle.std.specs.Prelude.{◌≡◌, ◌+◌, ◌<◌, ◌||◌, rever
 ghost use Rattle.ws2s_core.specs.Tracks as tracks;
 ghost use Rattle.ws2s_core.specs.Sizes.{node_count};
 ghost use Rattle.site_list.specs.Triples as triples;
-ghost use Rattle.pred_transform.specs.Free.{free_in, nodes_in, bound_once};
+ghost use Rattle.start_formula.specs.Free.{free_in, nodes_in, bound_once};
 
 use plain_data::Stack;
 use std::alloc::{AllocError, Global};

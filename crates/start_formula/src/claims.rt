@@ -6,14 +6,13 @@ ghost use Rattle.graph_view.specs.Sights.{sight_of};
 ghost use Rattle.site_list.specs.Claims as formulas;
 ghost use Rattle.site_list.specs.Parts as escaping;
 
-use claim_formula::assertion_formula;
+use claim_formula::{assertion_formula, value_of};
 use graph_cells::is_in;
 use graph_view::{Sym, View};
 use std::alloc::{AllocError, Global};
 use store_core::{VarId, VarKind};
 use store_exec::Claim;
 use store_logic::Region;
-use symbolic_steps::value_of;
 use tree_encode::Layout;
 use ws2s_core::{Formula, Track};
 use ws2s_forms::{ex1, later, or_list};
@@ -49,7 +48,11 @@ fn claim(
 }
 
 /// Claims on the store that is seen.
-pub(crate) fn claims(
+///
+/// # Errors
+///
+/// Want of memory, also where there are not as many tracks.
+pub fn claims(
     alloc: Global,
     l: &Layout<'_>,
     view: &mut View,
@@ -118,7 +121,11 @@ fn push_astray(
 }
 
 /// Some pointer variable names a cell on the wrong side of the part.
-pub(crate) fn escapes(
+///
+/// # Errors
+///
+/// Want of memory, also where there are not as many tracks.
+pub fn escapes(
     alloc: Global,
     l: &Layout<'_>,
     inside: &[VarId],

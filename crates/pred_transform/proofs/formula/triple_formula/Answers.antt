@@ -1,5 +1,5 @@
 use Rattle.std.proofs.Common.{ap, ◌∙◌}
-use Rattle.pred_transform.specs.Starts.{site_of_place}
+use Rattle.start_formula.specs.Starts.{site_of_place}
 use Rattle.pred_transform.proofs.FormulaLemmas.{site-found, site-not-found}
 use Rattle.pred_transform.proofs.formula.triple_formula.Goals as goal
 

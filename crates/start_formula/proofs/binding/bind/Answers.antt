@@ -1,6 +1,6 @@
 use Rattle.std.proofs.Common.{◌∙◌, arith}
-use Rattle.pred_transform.proofs.BindingLemmas.{bind-last}
-use Rattle.pred_transform.proofs.binding.bind.Goals as goal
+use Rattle.start_formula.proofs.BindingLemmas.{bind-last}
+use Rattle.start_formula.proofs.binding.bind.Goals as goal
 
 pub loop-definition-preserved : goal.loop-definition-preserved
 loop-definition-preserved c =

@@ -1,6 +1,6 @@
 use Rattle.std.proofs.Common.{◌≡◌, reverse, length}
 use Rattle.site_list.specs.Triples.{bind}
-use Rattle.pred_transform.proofs.binding.bind.Given as goal
+use Rattle.start_formula.proofs.binding.bind.Given as goal
 
 -- what is bound so far, with the rest bound around it, is the whole
 abbrev pub invariant-loop-definition : goal.invariant-loop-definition

@@ -1,7 +1,7 @@
 use Rattle.std.proofs.Common.{◌≡◌}
 use Rattle.ws2s_core.specs.Tracks.{is_free}
-use Rattle.pred_transform.specs.Free.{free_in, nodes_in}
-use Rattle.pred_transform.proofs.binding.is_free.Given as goal
+use Rattle.start_formula.specs.Free.{free_in, nodes_in}
+use Rattle.start_formula.proofs.binding.is_free.Given as goal
 
 -- the track is free in what is left exactly where it is in the whole
 abbrev pub invariant-loop-next : goal.invariant-loop-next

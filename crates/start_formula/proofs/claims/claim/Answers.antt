@@ -1,7 +1,7 @@
 use Rattle.std.proofs.Common.{ap, ◌∙◌}
 use Rattle.graph_view.specs.Sights.{sight_of}
 use Rattle.site_list.specs.Claims.{assertion}
-use Rattle.pred_transform.proofs.claims.claim.Goals as goal
+use Rattle.start_formula.proofs.claims.claim.Goals as goal
 
 pub returns-clause-value : goal.returns-clause-value
 returns-clause-value c =

@@ -1,6 +1,6 @@
 use Rattle.std.proofs.Common.{◌∙◌}
-use Rattle.pred_transform.proofs.ClaimLemmas.{claims-next}
-use Rattle.pred_transform.proofs.claims.claims.Goals as goal
+use Rattle.start_formula.proofs.ClaimLemmas.{claims-next}
+use Rattle.start_formula.proofs.claims.claims.Goals as goal
 
 pub loop-next-preserved : goal.loop-next-preserved
 loop-next-preserved c = record {

@@ -1,7 +1,7 @@
 use Rattle.std.proofs.Common.{◌≡◌, map, take}
 use Rattle.graph_view.specs.Sights.{sight_of}
 use Rattle.site_list.specs.Claims.{claim}
-use Rattle.pred_transform.proofs.claims.claims.Given as goal
+use Rattle.start_formula.proofs.claims.claims.Given as goal
 
 abbrev pub invariant-loop-next : goal.invariant-loop-next
 invariant-loop-next l = record {

@@ -2,7 +2,7 @@ use Rattle.std.proofs.Common.{◌≡◌, ◌++◌, map, take}
 use Rattle.ws2s_forms.specs.Forms.{empty_at}
 use Rattle.tree_encode.specs.Tracks.{var_track}
 use Rattle.tree_formula.specs.WellEncoded.{track_or_first}
-use Rattle.pred_transform.proofs.formula.push_nulls.Given as goal
+use Rattle.start_formula.proofs.starts.push_nulls.Given as goal
 
 abbrev pub invariant-loop-v : goal.invariant-loop-v
 invariant-loop-v l = l.parts.items

@@ -1,8 +1,8 @@
 use Rattle.std.proofs.Common.{◌≡◌, List, IfOk, refl, subst}
 use Rattle.ws2s_core.specs.declared.formula.Formula.{Formula}
 use Rattle.ws2s_forms.specs.Forms.{and_list}
-use Rattle.pred_transform.proofs.FormulaLemmas.{site-parts}
-use Rattle.pred_transform.proofs.formula.site_formula.Goals as goal
+use Rattle.start_formula.proofs.StartLemmas.{site-parts}
+use Rattle.start_formula.proofs.starts.site_formula.Goals as goal
 
 pub returns : goal.returns
 returns c =

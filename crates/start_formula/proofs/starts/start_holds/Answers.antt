@@ -1,8 +1,8 @@
 use Rattle.std.proofs.Common.{◌≡◌, List, IfOk, subst}
 use Rattle.ws2s_core.specs.declared.formula.Formula.{Formula}
 use Rattle.ws2s_forms.specs.Forms.{and_list}
-use Rattle.pred_transform.proofs.FormulaLemmas.{start-parts}
-use Rattle.pred_transform.proofs.formula.start_holds.Goals as goal
+use Rattle.start_formula.proofs.StartLemmas.{start-parts}
+use Rattle.start_formula.proofs.starts.start_holds.Goals as goal
 
 pub returns : goal.returns
 returns c =
