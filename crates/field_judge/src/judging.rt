@@ -13,7 +13,7 @@ use crate::variables::one_each;
 use crate::verdicts::verdict_on;
 use crate::weighing::weighed;
 use bdd_nodes::Shelf;
-use graph_routes::field_formula;
+use graph_type::field_formula;
 use std::alloc::{AllocError, Global};
 use store_core::{CellId, FieldId, Store, TypeTable};
 use tree_encode::{Layout, VariantList};

@@ -5,13 +5,9 @@
 //! are free; they are made for all others too.
 #![tactic(auto)]
 
-mod calls;
-mod forks;
 mod legs;
 mod naming;
 mod walks;
 
-pub use calls::{bool_formula, live_formula, step_formula, variant_formula, walk_formula};
-pub use forks::field_formula;
-pub use naming::{data_walk, destination, edge, names, names_by_data};
+pub use naming::{data_walk, destination, edge, first_destination, names, names_by_data};
 pub use walks::walk;

@@ -242,7 +242,11 @@ pub fn destination(
 }
 
 /// The same before all events.
-pub(crate) fn first_destination(
+///
+/// # Errors
+///
+/// Want of memory, also where there are not as many tracks.
+pub fn first_destination(
     alloc: Global,
     l: &Layout<'_>,
     next: u32,

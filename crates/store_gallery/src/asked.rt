@@ -5,10 +5,10 @@ use crate::tables::type_named;
 use crate::views::{field, number, sym, variant, word};
 use anyhow::{Result, bail};
 use graph_cells::{has, is_dead, is_live, is_null};
-use graph_routes::{
-    bool_formula, field_formula, live_formula, step_formula, variant_formula, walk_formula,
+use graph_type::{
+    bool_formula, closes, cut_formula, field_formula, live_formula, step_formula, variant_formula,
+    walk_formula,
 };
-use graph_type::{closes, cut_formula};
 use graph_view::{CutCheck, View};
 use std::alloc::{AllocError, Global};
 use std::str::SplitWhitespace;

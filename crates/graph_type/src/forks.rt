@@ -7,12 +7,11 @@ ghost use Rattle.graph_view.specs.Routes as routes;
 ghost use Rattle.graph_view.specs.Cuts as formulas;
 ghost use Rattle.graph_view.specs.Sights.{var_slots, at_first};
 
-use crate::naming::first_destination;
 use graph_cells::{all_three, some_pair};
+use graph_routes::first_destination;
 use std::alloc::{AllocError, Global};
 use store_core::{FieldId, FieldKind, Route, TypeId};
 use tree_encode::Layout;
-use tree_formula::well_encoded;
 use ws2s_core::{Formula, Track};
 use ws2s_forms::{ex1, false_at, later};
 
@@ -57,25 +56,16 @@ fn forks(
 }
 
 /// The same; never, if the field is no pointer field.
-fn forks_in(alloc: Global, l: &Layout<'_>, next: u32, f: FieldId) -> Result<Formula, AllocError>
+pub(crate) fn forks_in(
+    alloc: Global,
+    l: &Layout<'_>,
+    next: u32,
+    f: FieldId,
+) -> Result<Formula, AllocError>
     ensures { IfOk result (λ formula. formula ≡ formulas.field_forks l.now.types (at_first (var_slots l.now.vars)) next f) }
 {
     match l.types().kind(f) {
         Some(FieldKind::Pointer(target, along)) => forks(alloc, l, next, f, *target, along),
         _ => false_at(alloc, next),
     }
-}
-
-/// The tree is that of a backbone, and some cell of it has two destinations for the pointer field. The layout has one data
-/// variable a type and no spare, so that no walk finds more on another.
-///
-/// # Errors
-///
-/// Want of memory, also where there are not as many tracks.
-pub fn field_formula(alloc: Global, l: &Layout<'_>, f: FieldId) -> Result<Formula, AllocError>
-    ensures value { IfOk result (λ formula. formula ≡ formulas.field_formula l.now.types l.now.vars f) }
-{
-    let tree = well_encoded(alloc, l)?;
-    let forked = forks_in(alloc, l, l.tracks(), f)?;
-    Formula::and(alloc, tree, forked)
 }
