@@ -15,6 +15,7 @@ use plain_data::Items;
 use plain_writer::Writer;
 use std::alloc::{AllocError, Global};
 use ws2s_core::{LabelTree, Track, TrackList, TreeNode, TreeNodeList};
+use ws2s_theory::trees_are_joined;
 
 /// How many nodes the left child of a root has, and the numbers of both children's trees.
 #[derive(Clone, Copy)]
@@ -67,6 +68,8 @@ fn tree_of(alloc: Global, size: u32, number: u32) -> Result<TreeNodeList, AllocE
     ensures tree { IfOk result IsTree }
     ensures size { IfOk result (λ nodes. length nodes ≡ size) }
 {
+    // Only for its clause `tree`.
+    trees_are_joined();
     if size == 0 {
         return Ok(Items::new(alloc));
     }
@@ -74,9 +77,7 @@ fn tree_of(alloc: Global, size: u32, number: u32) -> Result<TreeNodeList, AllocE
     let sides = sides_of(rest, number / 4);
     let left = tree_of(alloc, sides.size, sides.left)?;
     let right = tree_of(alloc, rest - sides.size, sides.right)?;
-    let tracks = tracks(alloc, number)?;
-    let nodes = joined(alloc, tracks, left, right.as_slice())?;
-    Ok(nodes)
+    joined(alloc, tracks(alloc, number)?, left, right.as_slice())
 }
 
 /// The tracks of the label of this number.
