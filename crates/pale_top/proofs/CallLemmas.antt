@@ -1,5 +1,5 @@
 -- What a call leaves, by what it read and wrote.
-use Rattle.std.proofs.Common.{◌≡◌, ◌∙◌, ◌+◌, ◌<◌, ◌≤◌, ℕ, List, [], length, replicate, refl, ap, subst, sym, arith, inr, Option, Some, None, Result, Ok, Err}
+use Rattle.std.proofs.Common.{◌≡◌, ◌∙◌, ◌+◌, ◌<◌, ◌≤◌, ℕ, List, [], length, replicate, refl, ap, subst, sym, arith, ◌⊎◌, inl, inr, Option, Some, None, Result, Ok, Err}
 use Rattle.std.specs.Prelude.{◌≢◌, IfSome, IfOk, IsErrOf, OnErr}
 use Rattle.std.proofs.Math.ListN.{drop_of_length-le}
 use Rattle.std.proofs.lemmas.List.{length-replicate}
@@ -12,7 +12,8 @@ use Rattle.pale_typed.specs.TypedPrograms.{TypedProgram}
 use Rattle.pale_words.specs.declared.words.Mode.{Mode}
 use Rattle.pale_words.specs.declared.words.Mode.TheVariants.{Check, Replay, Format, Ws2s, Gen}
 use Rattle.pale_words.specs.declared.words.Settings.{Settings}
-use Rattle.pale_words.specs.Words.{Gives}
+use Rattle.pale_words.specs.Words.{AsksFor, Gives, IsRefused}
+use Rattle.pale_words.proofs.GivesLemmas.{not_refused, same_mode}
 use Rattle.pale_modes.specs.declared.status.Status.{Status}
 use Rattle.pale_modes.specs.declared.status.Status.TheVariants.{Good, Bad, Words, Text, Limit, Memory, ReadFault, WriteFault}
 use Rattle.pale_modes.proofs.GivenLemmas.{IsGiven, decided_given, formatted_given, replayed_given}
@@ -28,7 +29,7 @@ use Rattle.program_judge.specs.declared.ways.Ending.TheVariants as ending
 use Rattle.pale_top.specs.Checking.{Checks}
 use Rattle.pale_top.specs.Checking as checking
 use Rattle.pale_top.specs.Output.{Answers, Begins, CallOutput, IsAnswer, IsCutShort, Output}
-use Rattle.pale_top.specs.Output.{check, replay, format, ws2s, generated, given}
+use Rattle.pale_top.specs.Output.{check, replay, format, ws2s, generated, refused, given}
 use Rattle.pale_top.specs.Generating.{Gens, Tells}
 use Rattle.pale_top.specs.Generating as generating
 
@@ -89,55 +90,76 @@ output_given settings text output status (format is written answer formats) = fo
 output_given settings text output status (ws2s is written answer decides) = decided_given settings.limit text output status decides
 output_given settings text output status (generated is written answer gens) = generated_given settings.limit settings.seed output status gens
 
--- such an output isn't cut short
-given_whole : (status : Status) → IsGiven status → IsCutShort status → ⊥
-given_whole Memory one cut = one
-given_whole WriteFault one cut = one
-given_whole Good one cut = cut
-given_whole Bad one cut = cut
-given_whole Words one cut = cut
-given_whole Text one cut = cut
-given_whole Limit one cut = cut
-given_whole ReadFault one cut = cut
+-- each is an answer
+given_answer : (status : Status) → IsGiven status → IsAnswer status
+given_answer Good one = tt
+given_answer Bad one = tt
+given_answer Text one = tt
+given_answer Limit one = tt
+given_answer Words one = absurd one
+given_answer Memory one = one
+given_answer ReadFault one = one
+given_answer WriteFault one = one
 
--- what is written for a text with these settings, by what the sink left and how the call ended
-module _ (settings : Settings) (text : List ℕ) (before after : Option (List ℕ)) where
-  wrote_given : (answer status : Status) → status ≡ answer → Wrote (Output settings text) before after answer → IsGiven status
-  wrote_given answer status ends wrote = subst IsGiven (sym ends) (output_given settings text wrote.output answer wrote.allowed)
+call_answer : (words : List (List ℕ)) (text output : List ℕ) (status : Status) → CallOutput words text output status → IsAnswer status
+call_answer words text output status (refused is) = tt
+call_answer words text output status (given settings gives written answer out) = given_answer answer (output_given settings text written answer out)
+
+-- an answer isn't cut short
+answer_whole : (status : Status) → IsAnswer status → IsCutShort status → ⊥
+answer_whole Memory one cut = one
+answer_whole WriteFault one cut = one
+answer_whole Good one cut = cut
+answer_whole Bad one cut = cut
+answer_whole Words one cut = cut
+answer_whole Text one cut = cut
+answer_whole Limit one cut = cut
+answer_whole ReadFault one cut = cut
+
+-- what is written for these words and this text, by what the sink left and how the call ended
+module _ (words : List (List ℕ)) (text : List ℕ) (before after : Option (List ℕ)) where
+  wrote_answer : (answer status : Status) → status ≡ answer → Wrote (CallOutput words text) before after answer → IsAnswer status
+  wrote_answer answer status ends wrote = subst IsAnswer (sym ends) (call_answer words text wrote.output answer wrote.allowed)
 
   -- where it wasn't cut short, the output was written
-  pub text_answers : (left : Option (List ℕ)) (outcome : Result Status WriteStop) (status : Status) → IfSome left (λ bytes. text ≡ bytes)
-      → EndsBy outcome status → IfOk outcome (Wrote (Output settings text) before after) → IsAnswer status
-      → Answers (Output settings) left before after status
-  text_answers left (Ok answer) status told ends wrote is =
-      record { text = text; told = told; wrote = subst (λ (s : Status). Wrote (Output settings text) before after s) (sym ends) wrote }
-  text_answers left (Err Failed) status told ends wrote is = absurd (subst IsAnswer ends is)
-  text_answers left (Err NoMemory) status told ends wrote is = absurd (subst IsAnswer ends is)
+  pub text_wrote : (outcome : Result Status WriteStop) (status : Status) → EndsBy outcome status
+      → IfOk outcome (Wrote (CallOutput words text) before after) → IsAnswer status → Wrote (CallOutput words text) before after status
+  text_wrote (Ok answer) status ends wrote is = subst (λ (s : Status). Wrote (CallOutput words text) before after s) (sym ends) wrote
+  text_wrote (Err Failed) status ends wrote is = absurd (subst IsAnswer ends is)
+  text_wrote (Err NoMemory) status ends wrote is = absurd (subst IsAnswer ends is)
 
   -- where the writing was cut short, what was written begins an output
-  pub text_begun : (left : Option (List ℕ)) (outcome : Result Status WriteStop) (status : Status) → IfSome left (λ bytes. text ≡ bytes) → EndsBy outcome status
-      → IfOk outcome (Wrote (Output settings text) before after) → OnErr outcome (WroteAtMost (Output settings text) before after) → IsCutShort status
-      → Begins (Output settings) left before after
-  text_begun left (Ok answer) status told ends wrote begun cut = absurd (given_whole status (wrote_given answer status ends wrote) cut)
-  text_begun left (Err Failed) status told ends wrote begun cut = record { text = text; told = told; wrote = begun }
-  text_begun left (Err NoMemory) status told ends wrote begun cut = record { text = text; told = told; wrote = begun }
+  pub text_begun : (outcome : Result Status WriteStop) (status : Status) → EndsBy outcome status
+      → IfOk outcome (Wrote (CallOutput words text) before after) → OnErr outcome (WroteAtMost (CallOutput words text) before after) → IsCutShort status
+      → WroteAtMost (CallOutput words text) before after
+  text_begun (Ok answer) status ends wrote begun cut = absurd (answer_whole status (wrote_answer answer status ends wrote) cut)
+  text_begun (Err Failed) status ends wrote begun cut = begun
+  text_begun (Err NoMemory) status ends wrote begun cut = begun
 
   -- it doesn't end as at a fault of the source
   pub no_read_fault : (outcome : Result Status WriteStop) (status : Status) → EndsBy outcome status
-      → IfOk outcome (Wrote (Output settings text) before after) → status ≡ ReadFault → ⊥
-  no_read_fault (Ok answer) status ends wrote is = subst IsGiven is (wrote_given answer status ends wrote)
+      → IfOk outcome (Wrote (CallOutput words text) before after) → status ≡ ReadFault → ⊥
+  no_read_fault (Ok answer) status ends wrote is = subst IsAnswer is (wrote_answer answer status ends wrote)
   no_read_fault (Err Failed) status ends wrote is = subst IsCutShort (sym ends ∙ is) tt
   no_read_fault (Err NoMemory) status ends wrote is = subst IsCutShort (sym ends ∙ is) tt
 
   -- and as at a fault of the sink only where the sink failed
   pub write_failed : (outcome : Result Status WriteStop) (status : Status) → EndsBy outcome status
-      → IfOk outcome (Wrote (Output settings text) before after) → status ≡ WriteFault
-      → IsErrOf outcome Failed
-  write_failed (Ok answer) status ends wrote is = absurd (subst IsGiven is (wrote_given answer status ends wrote))
+      → IfOk outcome (Wrote (CallOutput words text) before after) → status ≡ WriteFault → IsErrOf outcome Failed
+  write_failed (Ok answer) status ends wrote is = absurd (subst IsAnswer is (wrote_answer answer status ends wrote))
   write_failed (Err Failed) status ends wrote is = refl
   write_failed (Err NoMemory) status ends wrote is =
       let bad : Memory ≡ WriteFault = sym ends ∙ is in
       cc
+
+  -- the text is all that a source had left, where it told of that
+  pub told_answers : (left : Option (List ℕ)) (status : Status) → IfSome left (λ bytes. text ≡ bytes)
+      → Wrote (CallOutput words text) before after status → Answers (CallOutput words) left before after status
+  told_answers left status told wrote = record { text = text; told = told; wrote = wrote }
+
+  pub told_begins : (left : Option (List ℕ)) → IfSome left (λ bytes. text ≡ bytes)
+      → WroteAtMost (CallOutput words text) before after → Begins (CallOutput words) left before after
+  told_begins left told wrote = record { text = text; told = told; wrote = wrote }
 
 -- each mode that reads a text refuses one with too many bytes
 pub too_long_output : (settings : Settings) (text : List ℕ) → settings.mode ≢ Gen → most_bytes < length text → Output settings text too_long_line Text
@@ -173,19 +195,52 @@ module _ (Allowed : List ℕ → List ℕ → Status → Type 0) (left before af
   line_begins (Err NoMemory) status ends whole said begun cut =
       record { text = text; told = told; wrote = inr (record { output = line; status = answer; allowed = allowed; written = begun }) }
 
--- ---- a call with words that give settings
+-- after a line with this status, the call ends with no other but at a fault or want of memory
+pub line_status : (before after : Option (List ℕ)) (line : List ℕ) (answer other : Status) (outcome : Result Status WriteStop) (status : Status) →
+    EndsBy outcome status → IfOk outcome (λ s. (s ≡ answer) × WritesAll before after line) → IsAnswer status → status ≡ other → other ≡ answer
+line_status before after line answer other (Ok s) status ends said is same = sym same ∙ ends ∙ said.0
+line_status before after line answer other (Err Failed) status ends said is same = absurd (subst IsAnswer ends is)
+line_status before after line answer other (Err NoMemory) status ends said is same = absurd (subst IsAnswer ends is)
 
-module _ (words : List (List ℕ)) (settings : Settings) (gives : Gives words settings) (left before after : Option (List ℕ)) where
-  pub call_answers : (status : Status) → Answers (Output settings) left before after status → Answers (CallOutput words) left before after status
-  call_answers status answer = record {
-    text = answer.text;
-    told = answer.told;
-    wrote = Wrote-weaker (Output settings answer.text) (CallOutput words answer.text) (given settings gives) before after status answer.wrote;
-  }
+-- ---- words for which no text is looked at
 
-  pub call_begins : Begins (Output settings) left before after → Begins (CallOutput words) left before after
-  call_begins begins = record {
-    text = begins.text;
-    told = begins.told;
-    wrote = WroteAtMost-weaker (Output settings begins.text) (CallOutput words begins.text) (given settings gives) before after begins.wrote;
-  }
+generated_for_all : (settings : Settings) → settings.mode ≡ Gen → (text other output : List ℕ) (status : Status) →
+    Output settings text output status → Output settings other output status
+generated_for_all settings asks text other output status (check is written answer checks) = (let bad : Gen ≡ Check = sym asks ∙ is in absurd (cc))
+generated_for_all settings asks text other output status (replay is written answer replays) = (let bad : Gen ≡ Replay = sym asks ∙ is in absurd (cc))
+generated_for_all settings asks text other output status (format is written answer formats) = (let bad : Gen ≡ Format = sym asks ∙ is in absurd (cc))
+generated_for_all settings asks text other output status (ws2s is written answer decides) = (let bad : Gen ≡ Ws2s = sym asks ∙ is in absurd (cc))
+generated_for_all settings asks text other output status (generated is written answer gens) = generated is written answer gens
+
+-- what they give for one text they give for each
+module _ (words : List (List ℕ)) (unread : IsRefused words ⊎ AsksFor words Gen) where
+  same_for_all : (text other output : List ℕ) (status : Status) → CallOutput words text output status → CallOutput words other output status
+  same_for_all text other output status (refused is) = refused is
+  same_for_all text other output status (given settings gives written answer out) = by_words unread
+    where
+      by_words : IsRefused words ⊎ AsksFor words Gen → CallOutput words other output status
+      by_words (inl refuses) = absurd (not_refused words settings gives refuses)
+      by_words (inr (asked, gave, asks)) = given settings gives written answer
+          (generated_for_all settings (same_mode words settings asked gives gave ∙ asks) text other written answer out)
+
+  pub unread_answers : (text : List ℕ) (left before after : Option (List ℕ)) (status : Status) → Wrote (CallOutput words text) before after status
+      → Answers (CallOutput words) left before after status
+  unread_answers text left before after status wrote =
+      let some = some_text left in
+      told_answers words some.0 before after left status some.1
+      (Wrote-weaker (CallOutput words text) (CallOutput words some.0) (same_for_all text some.0) before after status wrote)
+
+  pub unread_begins : (text : List ℕ) (left before after : Option (List ℕ)) → WroteAtMost (CallOutput words text) before after
+      → Begins (CallOutput words) left before after
+  unread_begins text left before after wrote =
+      let some = some_text left in
+      told_begins words some.0 before after left some.1
+      (WroteAtMost-weaker (CallOutput words text) (CallOutput words some.0) (same_for_all text some.0) before after wrote)
+
+  -- they don't ask for another mode
+  pub asks_for_none : (mode : Mode) → (mode ≡ Gen → ⊥) → AsksFor words mode → ⊥
+  asks_for_none mode other (settings, gives, asks) = by_words unread
+    where
+      by_words : IsRefused words ⊎ AsksFor words Gen → ⊥
+      by_words (inl refuses) = not_refused words settings gives refuses
+      by_words (inr (asked, gave, gen)) = other (sym asks ∙ same_mode words settings asked gives gave ∙ gen)

@@ -1,5 +1,5 @@
 -- What an output of `check` promises, by the laws of reports.
-use Rattle.std.proofs.Common.{◌≡◌, ◌∙◌, ◌⊎◌, inl, inr, ◌≤◌, ℕ, List, length, Option, Some, None, ap, refl, subst, sym, arith}
+use Rattle.std.proofs.Common.{◌≡◌, ◌∙◌, ◌⊎◌, inl, inr, ◌≤◌, ℕ, ◌<◌, List, length, Option, Some, None, ap, refl, subst, sym, arith}
 use Rattle.std.specs.Prelude.{IfSome}
 use Rattle.pale_text.specs.declared.refusal.Refusal.{Refusal}
 use Rattle.store_exec.specs.declared.triple.Triple.{Triple}
@@ -8,7 +8,7 @@ use Rattle.whole_program.specs.ProgramTexts.{IsReadAs, IsRefusedAs}
 use Rattle.pale_words.specs.declared.words.Mode.TheVariants.{Check, Replay, Format, Ws2s, Gen}
 use Rattle.pale_words.specs.declared.words.Settings.{Settings}
 use Rattle.pale_words.specs.Words.{AsksFor, Gives}
-use Rattle.pale_words.proofs.GivesLemmas.{same_limit, same_mode}
+use Rattle.pale_words.proofs.GivesLemmas.{not_refused, same_limit, same_mode}
 use Rattle.pale_modes.specs.declared.status.Status.{Status}
 use Rattle.pale_modes.specs.declared.status.Status.TheVariants.{Good, Bad}
 use Rattle.pale_modes.specs.Texts.{most_bytes}
@@ -18,7 +18,8 @@ use Rattle.program_judge.specs.Reports.{ReportsProgram}
 use Rattle.program_promises.specs.Safety.{RunsNeverFail, IsSafe}
 use Rattle.program_promises.specs.Completeness.{ArePeaksWithin, IsWithinPeaks}
 use Rattle.pale_top.specs.Checking.{Checks, status_of, too_long, refused, judged}
-use Rattle.pale_top.specs.Output.{Answers, IsAnswer, Output, check, replay, format, ws2s, generated}
+use Rattle.pale_top.specs.Output.{CallOutput, Output, check, replay, format, ws2s, generated}
+use Rattle.pale_top.specs.Output as called
 
 -- ---- what the layers below say of reports
 
@@ -62,16 +63,15 @@ module _ (runs : SafeRuns) where
   safe_output settings asks text output status (ws2s is written answer decides) good = (let bad : Check ≡ Ws2s = sym asks ∙ is in absurd (cc))
   safe_output settings asks text output status (generated is written answer gens) good = (let bad : Check ≡ Gen = sym asks ∙ is in absurd (cc))
 
-  told_safe : (left : Option (List ℕ)) (text : List ℕ) → IfSome left (λ bytes. text ≡ bytes) → IsSafe text → IfSome left IsSafe
-  told_safe None text told safe = tt
-  told_safe (Some bytes) text told safe = subst IsSafe told safe
+  pub safe_call : (words : List (List ℕ)) (text output : List ℕ) (status : Status) → CallOutput words text output status → status ≡ Good →
+      AsksFor words Check → IsSafe text
+  safe_call words text _ _ (called.refused refuses) good asked = absurd (cc)
+  safe_call words text _ _ (called.given settings gives written answer out) good (other, given, asks) =
+      safe_output settings (same_mode words settings other gives given ∙ asks) text written answer out good
 
-  pub safe_answer : (words : List (List ℕ)) (settings : Settings) → Gives words settings → (left before after : Option (List ℕ)) (status : Status) →
-      (IsAnswer status → Answers (Output settings) left before after status) → status ≡ Good → AsksFor words Check → IfSome left IsSafe
-  safe_answer words settings gives left before after status answers good (other, given, asks) =
-      let answer = answers (subst IsAnswer (sym good) tt) in
-      let mode : settings.mode ≡ Check = same_mode words settings other gives given ∙ asks in
-      told_safe left answer.text answer.told (safe_output settings mode answer.text answer.wrote.output status answer.wrote.allowed good)
+pub told_safe : (left : Option (List ℕ)) (text : List ℕ) → IfSome left (λ bytes. text ≡ bytes) → IsSafe text → IfSome left IsSafe
+told_safe None text told safe = tt
+told_safe (Some bytes) text told safe = subst IsSafe told safe
 
 -- ---- within the Peaks there is a verdict
 
@@ -104,19 +104,23 @@ module _ (laws : Laws) where
   decided_output settings asks text output status (generated is written answer gens) short within =
       (let bad : Check ≡ Gen = sym asks ∙ is in absurd (cc))
 
-  told_decided : (limit : ℕ) (left : Option (List ℕ)) (text : List ℕ) (status : Status) → IfSome left (λ bytes. text ≡ bytes) →
-      (length text ≤ most_bytes → IsWithinPeaks limit text → (status ≡ Good) ⊎ (status ≡ Bad)) →
-      IfSome left (λ bytes. length bytes ≤ most_bytes → IsWithinPeaks limit bytes → (status ≡ Good) ⊎ (status ≡ Bad))
-  told_decided limit None text status told decided = tt
-  told_decided limit (Some bytes) text status told decided =
-      subst (λ (b : List ℕ). length b ≤ most_bytes → IsWithinPeaks limit b → (status ≡ Good) ⊎ (status ≡ Bad)) told decided
+  pub decided_call : (words : List (List ℕ)) (text output : List ℕ) (status : Status) → CallOutput words text output status →
+      (other : Settings) → Gives words other → other.mode ≡ Check → length text ≤ most_bytes → IsWithinPeaks other.limit text →
+      (status ≡ Good) ⊎ (status ≡ Bad)
+  decided_call words text _ _ (called.refused refuses) other given asks short within = absurd (not_refused words other given refuses)
+  decided_call words text _ _ (called.given settings gives written answer out) other given asks short within =
+      decided_output settings (same_mode words settings other gives given ∙ asks) text written answer out short
+      (subst (λ (l : ℕ). IsWithinPeaks l text) (sym (same_limit words settings other gives given)) within)
 
-  pub decided_answer : (words : List (List ℕ)) (settings : Settings) → Gives words settings → (left before after : Option (List ℕ)) (status : Status) →
-      Answers (Output settings) left before after status → (other : Settings) → Gives words other → other.mode ≡ Check →
-      IfSome left (λ bytes. length bytes ≤ most_bytes → IsWithinPeaks other.limit bytes → (status ≡ Good) ⊎ (status ≡ Bad))
-  decided_answer words settings gives left before after status answer other given asks =
-      let mode : settings.mode ≡ Check = same_mode words settings other gives given ∙ asks in
-      subst (λ (l : ℕ). IfSome left (λ bytes. length bytes ≤ most_bytes → IsWithinPeaks l bytes → (status ≡ Good) ⊎ (status ≡ Bad)))
-      (same_limit words settings other gives given)
-      (told_decided settings.limit left answer.text status answer.told
-      (decided_output settings mode answer.text answer.wrote.output status answer.wrote.allowed))
+pub told_decided : (limit : ℕ) (left : Option (List ℕ)) (text : List ℕ) (status : Status) → IfSome left (λ bytes. text ≡ bytes) →
+    (length text ≤ most_bytes → IsWithinPeaks limit text → (status ≡ Good) ⊎ (status ≡ Bad)) →
+    IfSome left (λ bytes. length bytes ≤ most_bytes → IsWithinPeaks limit bytes → (status ≡ Good) ⊎ (status ≡ Bad))
+told_decided limit None text status told decided = tt
+told_decided limit (Some bytes) text status told decided =
+    subst (λ (b : List ℕ). length b ≤ most_bytes → IsWithinPeaks limit b → (status ≡ Good) ⊎ (status ≡ Bad)) told decided
+
+-- nor is there any text that is too long and isn't
+pub too_long_decided : (most : ℕ) (Holds : List ℕ → Type 0) (left : Option (List ℕ)) → IfSome left (λ bytes. most < length bytes) →
+    IfSome left (λ bytes. length bytes ≤ most → Holds bytes)
+too_long_decided most Holds None more = tt
+too_long_decided most Holds (Some bytes) more = λ short. absurd (omega (arith, more, short))

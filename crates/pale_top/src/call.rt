@@ -1,68 +1,57 @@
 //! A call of the program: its words, then its text, then what its mode writes.
-ghost use Rattle.std.specs.Prelude.{◌≡◌, ◌≢◌, ◌≤◌, ◌+◌, ◌⊎◌, length, IfOk, IfSome, OnErr, IsErrOf, map};
+ghost use Rattle.std.specs.Prelude.{◌≡◌, ◌≢◌, ◌≤◌, ◌+◌, ◌×◌, ◌⊎◌, length, true, false, Ok, IfSome, map};
 ghost use Rattle.std.specs.String.{string_bytes};
 ghost use Rattle.pale_io.specs.Faults.{Rose};
 ghost use Rattle.pale_io.specs.Told.{without_first};
 ghost use Rattle.pale_io.specs.Whole.{ReadsFront};
-ghost use Rattle.pale_words.specs.Words.{AsksFor, Gives, IsLimit, IsRefused};
+ghost use Rattle.pale_words.specs.declared.words.Settings.{Settings};
+ghost use Rattle.pale_words.specs.Words.{AsksFor, Gives, IsRefused};
 ghost use Rattle.pale_modes.specs.Report.{too_long_line};
 ghost use Rattle.pale_modes.specs.Texts.{most_bytes};
-ghost use Rattle.pale_modes.specs.Written.{Wrote, WroteAtMost};
 ghost use Rattle.program_promises.specs.Safety.{IsSafe};
 ghost use Rattle.program_promises.specs.Completeness.{IsWithinPeaks};
-ghost use Rattle.pale_top.specs.Output.{Answers, Begins, IsAnswer, IsCutShort, CallOutput, Output, usage_line};
+ghost use Rattle.pale_top.specs.Output.{Answers, Begins, IsAnswer, IsCutShort, CallOutput};
 
-use crate::check::check_text;
-use crate::generate::gen_text;
-use pale_io::{ReadStop, Sink, Source, WriteStop, read_all};
-use pale_modes::{Status, decide_text, ended, format_text, replay_text, say};
-use pale_words::{Mode, Settings, WordsStop, read_words};
-use program_promises::{
-    good_reports_have_safe_runs, reports_within_the_peaks_are_verdicts, texts_have_one_reading,
-};
-use std::alloc::Global;
+use crate::text::{MOST_BYTES, pale_bytes};
+use pale_io::{ReadStop, Sink, Source, read_all};
+use pale_modes::{Status, ended, say};
+use pale_words::{Mode, WordsStop, read_words};
+use std::alloc::{AllocError, Global};
 use ws2s_pass::PassList;
 
-/// The most bytes that a text may have.
-pub(crate) const MOST_BYTES: usize = 1_048_576;
-
-/// Writes what the settings give for a text that isn't too long.
-fn answer_text<K: Sink>(
-    alloc: Global,
-    settings: Settings,
-    text: &[u8],
-    passes: &PassList,
-    sink: &mut K,
-) -> Result<Status, WriteStop>
-    requires within { length text.now ≤ most_bytes }
-    requires limit { IsLimit settings.limit }
-    requires reads { settings.mode ≢ Mode.Gen }
-    ensures ok { IfOk result (Wrote (Output settings text.now) (K.written sink.old) (K.written sink.new)) }
-    ensures err { OnErr result (WroteAtMost (Output settings text.now) (K.written sink.old) (K.written sink.new)) }
-    ensures failed { IsErrOf result WriteStop.Failed → Rose (K.faults sink.old) (K.faults sink.new) }
-    ensures kept { K.faults sink.old ≤ K.faults sink.new }
+/// Whether the words ask for a mode that reads a text.
+fn reads_text(alloc: Global, words: &Vec<String>) -> Result<bool, AllocError>
+    ensures reads { result ≡ Ok true → (settings : Settings) × Gives (map string_bytes words.now.items) settings × (settings.mode ≢ Mode.Gen) }
+    ensures unread { result ≡ Ok false → IsRefused (map string_bytes words.now.items) ⊎ AsksFor (map string_bytes words.now.items) Mode.Gen }
 {
-    match settings.mode {
-        Mode::Check => check_text(alloc, settings.limit, text, passes, sink),
-        Mode::Replay => replay_text(alloc, text, sink),
-        Mode::Format => format_text(alloc, text, sink),
-        Mode::Ws2s => decide_text(alloc, settings.limit, text, sink),
-        Mode::Gen => unreachable!(),
+    match read_words(alloc, words) {
+        Ok(settings) => match settings.mode {
+            Mode::Gen => Ok(false),
+            Mode::Check | Mode::Replay | Mode::Format | Mode::Ws2s => Ok(true),
+        },
+        Err(WordsStop::Refused) => Ok(false),
+        Err(WordsStop::NoMemory) => Err(AllocError),
     }
 }
 
-/// Reads the whole text, and writes what the settings give for it.
+/// Reads the whole text, and does what the words ask for.
 fn answer<S: Source, K: Sink>(
     alloc: Global,
-    settings: Settings,
+    words: &Vec<String>,
     source: &mut S,
     sink: &mut K,
     passes: &PassList,
 ) -> Status
-    requires limit { IsLimit settings.limit }
-    requires reads { settings.mode ≢ Mode.Gen }
-    ensures answer { IsAnswer result → Answers (Output settings) (S.left source.old) (K.written sink.old) (K.written sink.new) result }
-    ensures begins { IsCutShort result → Begins (Output settings) (S.left source.old) (K.written sink.old) (K.written sink.new) }
+    requires { (settings : Settings) × Gives (map string_bytes words.now.items) settings × (settings.mode ≢ Mode.Gen) }
+    ensures answer { IsAnswer result → Answers (CallOutput (map string_bytes words.now.items))
+        (S.left source.old) (K.written sink.old) (K.written sink.new) result }
+    ensures begins { IsCutShort result → Begins (CallOutput (map string_bytes words.now.items))
+        (S.left source.old) (K.written sink.old) (K.written sink.new) }
+
+    ensures whole_runs { result ≡ Status.Good → AsksFor (map string_bytes words.now.items) Mode.Check → IfSome (S.left source.old) IsSafe }
+    ensures complete { IsAnswer result → (settings : _) → Gives (map string_bytes words.now.items) settings → settings.mode ≡ Mode.Check →
+        IfSome (S.left source.old) (λ text. length text ≤ most_bytes → IsWithinPeaks settings.limit text →
+        (result ≡ Status.Good) ⊎ (result ≡ Status.Bad)) }
 
     ensures read_fault { result ≡ Status.ReadFault → Rose (S.faults source.old) (S.faults source.new) }
     ensures unwritten { result ≡ Status.ReadFault → sink.new ≡ sink.old }
@@ -74,40 +63,10 @@ fn answer<S: Source, K: Sink>(
     ensures sink_kept { K.faults sink.old ≤ K.faults sink.new }
 {
     match read_all(alloc, source, MOST_BYTES) {
-        Ok(text) => ended(answer_text(alloc, settings, &text, passes, sink)),
+        Ok(text) => pale_bytes(alloc, words, &text, sink, passes),
         Err(ReadStop::TooLong) => ended(say(sink, b"refused too-long\n", Status::Text)),
         Err(ReadStop::Fault) => Status::ReadFault,
         Err(ReadStop::NoMemory) => Status::Memory,
-    }
-}
-
-/// Does what the settings ask for: `gen` reads nothing, and each other mode the whole text.
-fn obey<S: Source, K: Sink>(
-    alloc: Global,
-    settings: Settings,
-    source: &mut S,
-    sink: &mut K,
-    passes: &PassList,
-) -> Status
-    requires { IsLimit settings.limit }
-    ensures answer { IsAnswer result → Answers (Output settings) (S.left source.old) (K.written sink.old) (K.written sink.new) result }
-    ensures begins { IsCutShort result → Begins (Output settings) (S.left source.old) (K.written sink.old) (K.written sink.new) }
-
-    ensures read_fault { result ≡ Status.ReadFault → Rose (S.faults source.old) (S.faults source.new) }
-    ensures unwritten { result ≡ Status.ReadFault → sink.new ≡ sink.old }
-    ensures write_fault { result ≡ Status.WriteFault → Rose (K.faults sink.old) (K.faults sink.new) }
-
-    ensures unread { settings.mode ≡ Mode.Gen → (source.new ≡ source.old) × (result ≢ Status.ReadFault) }
-    ensures read { IsAnswer result → settings.mode ≢ Mode.Gen → S.left source.new ≡ without_first (most_bytes + 1) (S.left source.old) }
-    ensures taken { ReadsFront most_bytes (S.left source.old) (S.left source.new) }
-    ensures source_kept { S.faults source.old ≤ S.faults source.new }
-    ensures sink_kept { K.faults sink.old ≤ K.faults sink.new }
-{
-    match settings.mode {
-        Mode::Gen => ended(gen_text(alloc, settings.limit, settings.seed, passes, sink)),
-        Mode::Check | Mode::Replay | Mode::Format | Mode::Ws2s => {
-            answer(alloc, settings, source, sink, passes)
-        }
     }
 }
 
@@ -154,16 +113,9 @@ pub fn pale_main<S: Source, K: Sink>(
     ensures source_kept { S.faults source.old ≤ S.faults source.new }
     ensures sink_kept { K.faults sink.old ≤ K.faults sink.new }
 {
-    // Only for what they say.
-    texts_have_one_reading();
-    good_reports_have_safe_runs();
-    reports_within_the_peaks_are_verdicts();
-    match read_words(alloc, words) {
-        Ok(settings) => obey(alloc, settings, source, sink, passes),
-        Err(WordsStop::Refused) => {
-            let usage = b"usage: pale MODE [--limit N] [--seed N]\n";
-            ended(say(sink, usage, Status::Words))
-        }
-        Err(WordsStop::NoMemory) => Status::Memory,
+    match reads_text(alloc, words) {
+        Ok(true) => answer(alloc, words, source, sink, passes),
+        Ok(false) => pale_bytes(alloc, words, &[], sink, passes),
+        Err(_) => Status::Memory,
     }
 }

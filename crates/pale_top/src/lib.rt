@@ -9,6 +9,8 @@ mod check;
 mod check_parts;
 mod generate;
 mod nowhere;
+mod text;
 
 pub use call::pale_main;
 pub use pale_modes::Status;
+pub use text::pale_bytes;

@@ -1,37 +1,44 @@
-use Rattle.std.proofs.Common.{◌≡◌, List, ℕ, rules, refl, sym, subst, inl}
-use Rattle.std.specs.Prelude.{IfSome}
-use Rattle.pale_modes.specs.declared.status.Status.TheVariants.{Text}
-use Rattle.pale_top.specs.Output.{Output}
+use Rattle.std.proofs.Common.{◌≡◌, List, ℕ, rules, refl, sym, subst, inl, map}
+use Rattle.std.specs.Prelude.{◌⊎◌, ◌≤◌, IfSome, length}
+use Rattle.std.specs.String.{string_bytes}
+use Rattle.pale_modes.specs.declared.status.Status.TheVariants.{Good, Bad, Text}
 use Rattle.pale_modes.specs.Report.{too_long_line}
 use Rattle.pale_modes.specs.Texts.{most_bytes}
-use Rattle.pale_top.proofs.CallLemmas.{all_read, line_answers, line_begins, long_text, no_read_fault, some_text, text_begun, too_long_output, write_failed}
+use Rattle.program_promises.specs.Completeness.{IsWithinPeaks}
+use Rattle.pale_top.specs.Output.{CallOutput, IsAnswer, given}
+use Rattle.pale_top.proofs.CallLemmas.{all_read, line_answers, line_begins, line_status, long_text, some_text, told_answers, told_begins, too_long_output}
+use Rattle.pale_top.proofs.PromiseLemmas.{told_decided, told_safe, too_long_decided}
 use Rattle.pale_top.proofs.call.answer.Goals as goal
 
-pub returns-in-Ok-clause-begins : goal.returns-in-Ok-clause-begins
-returns-in-Ok-clause-begins g c =
+pub returns-in-Ok-clause-answer : goal.returns-in-Ok-clause-answer
+returns-in-Ok-clause-answer g c is =
     let left = g.S.Source.left c.args.source.now in
     let text = c.deref.result.now in
     let told = subst (λ (t : List ℕ). IfSome left (λ bytes. t ≡ bytes)) (sym c.deref.ensures.value) c.in-Ok.ensures.whole.whole in
-    text_begun c.args.settings text (g.K.Sink.written c.args.sink.now) (g.K.Sink.written c.answer_text.new.sink) left c.answer_text.result c.ended.result told
-    c.ended.ensures c.answer_text.ensures.ok c.answer_text.ensures.err
+    told_answers (map string_bytes c.args.words.now.items) text (g.K.Sink.written c.args.sink.now) (g.K.Sink.written c.pale_bytes.new.sink) left
+    c.pale_bytes.result told (c.pale_bytes.ensures.answer is)
 
-pub returns-in-Ok-clause-read_fault : goal.returns-in-Ok-clause-read_fault
-returns-in-Ok-clause-read_fault g c is =
-    absurd (no_read_fault c.args.settings c.deref.result.now (g.K.Sink.written c.args.sink.now) (g.K.Sink.written c.answer_text.new.sink)
-    c.answer_text.result c.ended.result c.ended.ensures
-    c.answer_text.ensures.ok is)
+pub returns-in-Ok-clause-begins : goal.returns-in-Ok-clause-begins
+returns-in-Ok-clause-begins g c cut =
+    let left = g.S.Source.left c.args.source.now in
+    let text = c.deref.result.now in
+    let told = subst (λ (t : List ℕ). IfSome left (λ bytes. t ≡ bytes)) (sym c.deref.ensures.value) c.in-Ok.ensures.whole.whole in
+    told_begins (map string_bytes c.args.words.now.items) text (g.K.Sink.written c.args.sink.now) (g.K.Sink.written c.pale_bytes.new.sink) left
+    told (c.pale_bytes.ensures.begins cut)
 
-pub returns-in-Ok-clause-unwritten : goal.returns-in-Ok-clause-unwritten
-returns-in-Ok-clause-unwritten g c is =
-    absurd (no_read_fault c.args.settings c.deref.result.now (g.K.Sink.written c.args.sink.now) (g.K.Sink.written c.answer_text.new.sink)
-    c.answer_text.result c.ended.result c.ended.ensures
-    c.answer_text.ensures.ok is)
+pub returns-in-Ok-clause-whole_runs : goal.returns-in-Ok-clause-whole_runs
+returns-in-Ok-clause-whole_runs g c good asks =
+    let left = g.S.Source.left c.args.source.now in
+    let text = c.deref.result.now in
+    let told = subst (λ (t : List ℕ). IfSome left (λ bytes. t ≡ bytes)) (sym c.deref.ensures.value) c.in-Ok.ensures.whole.whole in
+    told_safe left text told (c.pale_bytes.ensures.whole_runs good asks)
 
-pub returns-in-Ok-clause-write_fault : goal.returns-in-Ok-clause-write_fault
-returns-in-Ok-clause-write_fault g c is =
-    c.answer_text.ensures.failed (write_failed c.args.settings c.deref.result.now (g.K.Sink.written c.args.sink.now)
-    (g.K.Sink.written c.answer_text.new.sink) c.answer_text.result c.ended.result
-    c.ended.ensures c.answer_text.ensures.ok is)
+pub returns-in-Ok-clause-complete : goal.returns-in-Ok-clause-complete
+returns-in-Ok-clause-complete g c is settings gives asks =
+    let left = g.S.Source.left c.args.source.now in
+    let text = c.deref.result.now in
+    let told = subst (λ (t : List ℕ). IfSome left (λ bytes. t ≡ bytes)) (sym c.deref.ensures.value) c.in-Ok.ensures.whole.whole in
+    told_decided settings.limit left text c.pale_bytes.result told (c.pale_bytes.ensures.complete is settings gives asks)
 
 pub returns-in-Ok-clause-read : goal.returns-in-Ok-clause-read
 returns-in-Ok-clause-read g c _ = all_read most_bytes (g.S.Source.left c.args.source.now) (g.S.Source.left c.read_all.new.source) c.in-Ok.text.items
@@ -44,8 +51,10 @@ returns-in-Err-TooLong-clause-answer g c =
     let after = g.K.Sink.written c.say.new.sink in
     let many = c.in-Err-TooLong.ensures.too_long (search rules) in
     let text = long_text most_bytes left many.more in
-    line_answers (Output c.args.settings) left before after text.0 too_long_line Text text.1 (too_long_output c.args.settings text.0 c.requires.reads text.2)
-    c.say.result c.ended-in-Err-TooLong.result c.ended-in-Err-TooLong.ensures c.say.ensures.ok
+    let (settings, gives, reads) = c.requires in
+    line_answers (CallOutput (map string_bytes c.args.words.now.items)) left before after text.0 too_long_line Text text.1
+    (given settings gives too_long_line Text (too_long_output settings text.0 reads text.2))
+    c.say.result c.ended.result c.ended.ensures c.say.ensures.ok
 
 pub returns-in-Err-TooLong-clause-begins : goal.returns-in-Err-TooLong-clause-begins
 returns-in-Err-TooLong-clause-begins g c =
@@ -54,10 +63,23 @@ returns-in-Err-TooLong-clause-begins g c =
     let after = g.K.Sink.written c.say.new.sink in
     let many = c.in-Err-TooLong.ensures.too_long (search rules) in
     let text = long_text most_bytes left many.more in
-    line_begins (Output c.args.settings) left before after text.0 too_long_line Text text.1
-    (too_long_output c.args.settings text.0 c.requires.reads text.2) c.say.result
-    c.ended-in-Err-TooLong.result c.ended-in-Err-TooLong.ensures
+    let (settings, gives, reads) = c.requires in
+    line_begins (CallOutput (map string_bytes c.args.words.now.items)) left before after text.0 too_long_line Text text.1
+    (given settings gives too_long_line Text (too_long_output settings text.0 reads text.2)) c.say.result
+    c.ended.result c.ended.ensures
     (λ cut. cut) c.say.ensures.ok c.say.ensures.err
+
+pub returns-in-Err-TooLong-clause-whole_runs : goal.returns-in-Err-TooLong-clause-whole_runs
+returns-in-Err-TooLong-clause-whole_runs g c good asks =
+    let bad = line_status (g.K.Sink.written c.args.sink.now) (g.K.Sink.written c.say.new.sink) too_long_line Text Good c.say.result c.ended.result
+        c.ended.ensures c.say.ensures.ok (subst IsAnswer (sym good) tt) good in
+    absurd (cc)
+
+pub returns-in-Err-TooLong-clause-complete : goal.returns-in-Err-TooLong-clause-complete
+returns-in-Err-TooLong-clause-complete g c is settings gives asks =
+    let many = c.in-Err-TooLong.ensures.too_long (search rules) in
+    too_long_decided most_bytes
+    (λ text. IsWithinPeaks settings.limit text → (c.ended.result ≡ Good) ⊎ (c.ended.result ≡ Bad)) (g.S.Source.left c.args.source.now) many.more
 
 pub returns-in-Err-NoMemory-clause-begins : goal.returns-in-Err-NoMemory-clause-begins
 returns-in-Err-NoMemory-clause-begins g c _ =

@@ -4,7 +4,7 @@ use Rattle.pale_top.specs.Output.{Output, check, replay, format, ws2s}
 use Rattle.pale_modes.specs.Deciding.{Decides}
 use Rattle.pale_modes.specs.Replaying.{Replays}
 use Rattle.pale_modes.proofs.WrittenLemmas.{begun-weaker, whole-weaker}
-use Rattle.pale_top.proofs.call.answer_text.Goals as goal
+use Rattle.pale_top.proofs.text.answer_text.Goals as goal
 
 pub returns-in-Check-clause-ok : goal.returns-in-Check-clause-ok
 returns-in-Check-clause-ok g c =

@@ -1,0 +1,44 @@
+use Rattle.std.proofs.Common.{map, subst, sym}
+use Rattle.std.specs.String.{string_bytes}
+use Rattle.pale_top.specs.Output.{IsAnswer}
+use Rattle.pale_top.proofs.CallLemmas.{no_read_fault, text_begun, text_wrote, write_failed}
+use Rattle.pale_top.proofs.PromiseLemmas.{decided_call, safe_call}
+use Rattle.pale_top.proofs.text.pale_bytes.Goals as goal
+
+pub returns-clause-answer : goal.returns-clause-answer
+returns-clause-answer g c =
+    text_wrote (map string_bytes c.args.words.now.items) c.args.text.now (g.K.Sink.written c.args.sink.now) (g.K.Sink.written c.answer_words.new.sink)
+    c.answer_words.result c.ended.result c.ended.ensures c.answer_words.ensures.ok
+
+pub returns-clause-begins : goal.returns-clause-begins
+returns-clause-begins g c =
+    text_begun (map string_bytes c.args.words.now.items) c.args.text.now (g.K.Sink.written c.args.sink.now) (g.K.Sink.written c.answer_words.new.sink)
+    c.answer_words.result c.ended.result c.ended.ensures c.answer_words.ensures.ok c.answer_words.ensures.err
+
+pub returns-clause-whole_runs : goal.returns-clause-whole_runs
+returns-clause-whole_runs g c good =
+    let words = map string_bytes c.args.words.now.items in
+    let wrote = text_wrote words c.args.text.now (g.K.Sink.written c.args.sink.now) (g.K.Sink.written c.answer_words.new.sink)
+        c.answer_words.result c.ended.result c.ended.ensures c.answer_words.ensures.ok (subst IsAnswer (sym good) tt) in
+    safe_call c.good_reports_have_safe_runs.ensures words c.args.text.now wrote.output c.ended.result wrote.allowed good
+
+pub returns-clause-complete : goal.returns-clause-complete
+returns-clause-complete g c is =
+    let words = map string_bytes c.args.words.now.items in
+    let wrote = text_wrote words c.args.text.now (g.K.Sink.written c.args.sink.now) (g.K.Sink.written c.answer_words.new.sink)
+        c.answer_words.result c.ended.result c.ended.ensures c.answer_words.ensures.ok is in
+    decided_call (record {
+      one = c.texts_have_one_reading.ensures.one;
+      apart = c.texts_have_one_reading.ensures.apart;
+      verdicts = c.reports_within_the_peaks_are_verdicts.ensures;
+    }) words c.args.text.now wrote.output c.ended.result wrote.allowed
+
+pub returns-clause-no_read_fault : goal.returns-clause-no_read_fault
+returns-clause-no_read_fault g c =
+    no_read_fault (map string_bytes c.args.words.now.items) c.args.text.now (g.K.Sink.written c.args.sink.now)
+    (g.K.Sink.written c.answer_words.new.sink) c.answer_words.result c.ended.result c.ended.ensures c.answer_words.ensures.ok
+
+pub returns-clause-write_fault : goal.returns-clause-write_fault
+returns-clause-write_fault g c is =
+    c.answer_words.ensures.failed (write_failed (map string_bytes c.args.words.now.items) c.args.text.now (g.K.Sink.written c.args.sink.now)
+    (g.K.Sink.written c.answer_words.new.sink) c.answer_words.result c.ended.result c.ended.ensures c.answer_words.ensures.ok is)
