@@ -13,16 +13,29 @@ from pathlib import Path
 
 ROOT = Path(__file__).resolve().parent.parent
 FUNCTION = re.compile(r"^([ \t]*)pub (?:const )?fn (\w+)", re.M)
-OWNER = re.compile(r"^(?:impl|trait|pub trait)\b([^{;]*)", re.M)
+OWNER = re.compile(r"^(impl|trait|pub trait)\b([^{;]*)", re.M)
+
+
+def block_of(text, at):
+    """The first word and the rest of the head of the block in which a method at that offset stands."""
+    last = None
+    for found in OWNER.finditer(text, 0, at):
+        last = found.groups()
+    return last
+
+
+def is_of_trait(text, at):
+    """Whether a method at that offset is one of a trait or of a type as a trait has it: public without the word."""
+    block = block_of(text, at)
+    return block is not None and (block[0] != "impl" or " for " in block[1])
 
 
 def owner_of(text, at):
     """The type or trait in whose block a method at that offset stands."""
-    last = None
-    for found in OWNER.finditer(text, 0, at):
-        last = found.group(1)
-    if last is None:
+    block = block_of(text, at)
+    if block is None:
         return None
+    last = block[1]
     words = re.sub(r"<[^<>]*>", "", re.sub(r"<[^<>]*>", "", last))
     words = words.split(" where ")[0].split(" for ")[-1]
     names = re.findall(r"\w+", words)
@@ -45,7 +58,8 @@ def functions_of(crate):
     for path in sorted((ROOT / "crates" / crate / "src").rglob("*.rt")):
         text = path.read_text()
         methods = [(m.start(), m.group(1), m.group(2)) for m in FUNCTION.finditer(text)]
-        traits = [(m.start(), m.group(1), m.group(2)) for m in re.finditer(r"^([ \t]+)fn (\w+)", text, re.M)]
+        found = re.finditer(r"^([ \t]+)fn (\w+)", text, re.M)
+        traits = [(m.start(), m.group(1), m.group(2)) for m in found if is_of_trait(text, m.start())]
         for at, indent, name in methods + traits:
             owner = owner_of(text, at) if indent else None
             labels = set()
