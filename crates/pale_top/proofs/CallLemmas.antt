@@ -4,7 +4,7 @@ use Rattle.std.specs.Prelude.{◌≢◌, IfSome, IfOk, IsErrOf, OnErr}
 use Rattle.std.proofs.Math.ListN.{drop_of_length-le}
 use Rattle.std.proofs.lemmas.List.{length-replicate}
 use Rattle.pale_io.specs.Told.{without_first}
-use Rattle.pale_io.specs.Whole.{ReadsAll, WritesAll, WritesFront}
+use Rattle.pale_io.specs.Whole.{ReadsAll, ReadsFront, WritesAll, WritesFront}
 use Rattle.pale_io.specs.declared.stops.WriteStop.{WriteStop}
 use Rattle.pale_io.specs.declared.stops.WriteStop.TheVariants.{Failed, NoMemory}
 use Rattle.store_exec.specs.declared.triple.Triple.{Triple}
@@ -60,6 +60,10 @@ all_read most (Some left) after bytes reads =
     let count : length bytes ≡ length left = ap length reads.whole in
     let short : length left ≤ most + 1 = omega arith in
     reads.rest ∙ ap (λ (rest : List ℕ). Some rest) (sym (drop_of_length-le left short))
+
+-- and it takes a front of it
+pub front_read : (most : ℕ) (before after : Option (List ℕ)) (bytes : List ℕ) → ReadsAll most before after bytes → ReadsFront most before after
+front_read most before after bytes reads = record { count = most + 1; within = omega arith; rest = all_read most before after bytes reads }
 
 -- ---- the statuses of outputs
 
@@ -244,3 +248,11 @@ module _ (words : List (List ℕ)) (unread : IsRefused words ⊎ AsksFor words G
       by_words : IsRefused words ⊎ AsksFor words Gen → ⊥
       by_words (inl refuses) = not_refused words settings gives refuses
       by_words (inr (asked, gave, gen)) = other (sym asks ∙ same_mode words settings asked gives gave ∙ gen)
+
+  -- nor for one that reads a text
+  pub asks_for_text : ((settings : Settings) × Gives words settings × (settings.mode ≢ Gen)) → ⊥
+  asks_for_text (settings, gives, reads) = by_words unread
+    where
+      by_words : IsRefused words ⊎ AsksFor words Gen → ⊥
+      by_words (inl refuses) = not_refused words settings gives refuses
+      by_words (inr (asked, gave, gen)) = reads (same_mode words settings asked gives gave ∙ gen)

@@ -6,7 +6,7 @@ use Rattle.pale_modes.specs.Report.{too_long_line}
 use Rattle.pale_modes.specs.Texts.{most_bytes}
 use Rattle.program_promises.specs.Completeness.{IsWithinPeaks}
 use Rattle.pale_top.specs.Output.{CallOutput, IsAnswer, given}
-use Rattle.pale_top.proofs.CallLemmas.{all_read, line_answers, line_begins, line_status, long_text, some_text, told_answers, told_begins, too_long_output}
+use Rattle.pale_top.proofs.CallLemmas.{all_read, front_read, line_answers, line_begins, line_status, long_text, some_text, told_answers, told_begins, too_long_output}
 use Rattle.pale_top.proofs.PromiseLemmas.{told_decided, told_safe, too_long_decided}
 use Rattle.pale_top.proofs.call.answer.Goals as goal
 
@@ -42,6 +42,10 @@ returns-in-Ok-clause-complete g c is settings gives asks =
 
 pub returns-in-Ok-clause-read : goal.returns-in-Ok-clause-read
 returns-in-Ok-clause-read g c _ = all_read most_bytes (g.S.Source.left c.args.source.now) (g.S.Source.left c.read_all.new.source) c.in-Ok.text.items
+    c.in-Ok.ensures.whole
+
+pub returns-in-Ok-clause-taken : goal.returns-in-Ok-clause-taken
+returns-in-Ok-clause-taken g c = front_read most_bytes (g.S.Source.left c.args.source.now) (g.S.Source.left c.read_all.new.source) c.in-Ok.text.items
     c.in-Ok.ensures.whole
 
 pub returns-in-Err-TooLong-clause-answer : goal.returns-in-Err-TooLong-clause-answer

@@ -1,10 +1,25 @@
+use Rattle.std.proofs.Common.{rules}
 use Rattle.pale_modes.specs.Formatting.{Formats}
 use Rattle.pale_top.specs.Checking.{Checks}
 use Rattle.pale_top.specs.Output.{Output, check, replay, format, ws2s}
 use Rattle.pale_modes.specs.Deciding.{Decides}
 use Rattle.pale_modes.specs.Replaying.{Replays}
 use Rattle.pale_modes.proofs.WrittenLemmas.{begun-weaker, whole-weaker}
+use Rattle.pale_modes.proofs.WrittenLemmas.{said_begun, said_whole}
+use Rattle.pale_modes.specs.Report.{too_long_line}
+use Rattle.pale_modes.specs.declared.status.Status.TheVariants.{Text}
+use Rattle.pale_top.proofs.CallLemmas.{too_long_output}
 use Rattle.pale_top.proofs.text.answer_text.Goals as goal
+
+pub returns-then-text-gt-MOST_BYTES-clause-ok : goal.returns-then-text-gt-MOST_BYTES-clause-ok
+returns-then-text-gt-MOST_BYTES-clause-ok g c =
+    said_whole (Output c.args.settings c.args.text.now) (g.K.Sink.written c.args.sink.now) (g.K.Sink.written c.say.new.sink)
+    too_long_line Text (too_long_output c.args.settings c.args.text.now c.requires.reads (search rules)) c.say.result c.say.ensures.ok
+
+pub returns-then-text-gt-MOST_BYTES-clause-err : goal.returns-then-text-gt-MOST_BYTES-clause-err
+returns-then-text-gt-MOST_BYTES-clause-err g c =
+    said_begun (Output c.args.settings c.args.text.now) (g.K.Sink.written c.args.sink.now) (g.K.Sink.written c.say.new.sink)
+    too_long_line Text (too_long_output c.args.settings c.args.text.now c.requires.reads (search rules)) c.say.result c.say.ensures.err
 
 pub returns-in-Check-clause-ok : goal.returns-in-Check-clause-ok
 returns-in-Check-clause-ok g c =
