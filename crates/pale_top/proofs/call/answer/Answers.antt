@@ -6,7 +6,8 @@ use Rattle.pale_modes.specs.Report.{too_long_line}
 use Rattle.pale_modes.specs.Texts.{most_bytes}
 use Rattle.program_promises.specs.Completeness.{IsWithinPeaks}
 use Rattle.pale_top.specs.Output.{CallOutput, IsAnswer, given}
-use Rattle.pale_top.proofs.CallLemmas.{all_read, front_read, line_answers, line_begins, line_status, long_text, some_text, told_answers, told_begins, too_long_output}
+use Rattle.pale_top.proofs.CallLemmas.{all_read, front_read, line_answers, line_begins, line_status, long_text, some_text}
+use Rattle.pale_top.proofs.CallLemmas.{told_answers, told_begins, too_long_output}
 use Rattle.pale_top.proofs.PromiseLemmas.{told_decided, told_safe, too_long_decided}
 use Rattle.pale_top.proofs.call.answer.Goals as goal
 
