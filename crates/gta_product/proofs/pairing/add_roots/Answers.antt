@@ -1,0 +1,19 @@
+use Rattle.std.proofs.Common.{List, [], ◌++◌, take, get_or, append-nil, append_assoc, sym, ◌∙◌, ap, arith}
+use Rattle.std.proofs.lemmas.List.{take_more}
+use Rattle.bdd_nodes.specs.declared.node_ref.NodeRef.{NodeRef}
+use Rattle.gta_product.specs.Filling.{row_by_row}
+use Rattle.gta_product.proofs.RowsLemmas.{row_by_row-more}
+use Rattle.gta_product.proofs.pairing.add_roots.Goals as goal
+
+pub loop-row-init : goal.loop-row-init
+loop-row-init c = sym (append-nil c.args.roots.now)
+
+pub loop-row-preserved : goal.loop-row-preserved
+loop-row-preserved c =
+    let cells = c.args.cells.now.items in
+    let i = c.loop-row.row-index in
+    let row = get_or cells i [] in
+    let old = c.args.roots.now in
+    c.in_ok-add_row.ensures ∙ ap (λ (rs : List NodeRef). c.loop-row.roots ++ rs) c.as_slice.ensures
+    ∙ ap (λ (rs : List NodeRef). rs ++ row) c.loop-row.invariant ∙ append_assoc old (row_by_row (take i cells)) row
+    ∙ ap (λ (rs : List NodeRef). old ++ rs) (sym (row_by_row-more (take i cells) row) ∙ ap row_by_row (sym (take_more cells i [] (omega arith))))
