@@ -212,7 +212,7 @@ pub extends-same : (old new : List (ℕ × ℕ)) → Extends old new → length 
 extends-same old new extends most = ext old new (λ k. pick k (slice_get old k) refl)
   where
     pick : (k : ℕ) (o : Option (ℕ × ℕ)) → slice_get old k ≡ o → slice_get old k ≡ slice_get new k
-    pick k None none = none ∙ sym (slice_get_past new k (omega (arith, past-none old k none)))
+    pick k None none = none ∙ sym (slice_get_past new k (omega (arith, most, past-none old k none)))
     pick k (Some pair) there = there ∙ sym (extends.kept k pair there)
 
 pub number_in-extends : (old new : List (ℕ × ℕ)) → AreNumbers new → Extends old new → (pair : ℕ × ℕ) (n : ℕ) →

@@ -153,9 +153,8 @@ length-row_by_row width [] wide = omega arith
 length-row_by_row width (row ∷ rows) wide =
     let first = wide 0 row refl in
     let rest = length-row_by_row width rows (λ i roots there. wide (suc i) roots there) in
-    let step = suc-mul (length rows) width in
-    let both = length-append row (row_by_row rows) in
-    omega arith
+    let both : length row + length (row_by_row rows) ≡ length rows * width + width = omega (arith, first, rest) in
+    length-append row (row_by_row rows) ∙ both ∙ sym (suc-mul (length rows) width)
 
 pub get-row_by_row : (width : ℕ) (cells : List (List NodeRef)) → AreWide width cells → (i j : ℕ) (row : List NodeRef) → slice_get cells i ≡ Some row →
     j < width → slice_get (row_by_row cells) (i * width + j) ≡ slice_get row j

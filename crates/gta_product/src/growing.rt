@@ -309,7 +309,6 @@ fn join_rows(
     ensures fits { OnOk result (FitAll shelf.new joiners.new.items numbers.new.items) }
 {
     let at = space as usize;
-    let (rows, columns) = (rows.ones.as_slice(), columns.ones.as_slice());
     fill(
         alloc,
         a,
@@ -317,8 +316,8 @@ fn join_rows(
         tables,
         shelf,
         space,
-        rows,
-        columns,
+        rows.ones.as_slice(),
+        columns.ones.as_slice(),
         from,
         &mut joiners[at],
         &mut numbers[at],
