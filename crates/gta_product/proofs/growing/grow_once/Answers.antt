@@ -85,7 +85,7 @@ loop-space-preserved c =
     let e = c.in_ok-grow_space.ensures in
     let goes = c.grow_space.ensures.goes in
     let AB = pairs (automaton_of start a) (automaton_of start b) in
-    let within : s < length growths = (let end = c.spaces-space-end.ensures.value in omega (arith, invariant.grown.many, c.loop-space-test.true)) in
+    let within : s < length growths = (let bound = c.spaces-space-end.ensures.value in omega (arith, invariant.grown.many, c.loop-space-test.true)) in
     let are = both-back g a b start shelf is_shelf first before invariant.goes (λ (AB : Automaton (ℕ × ℕ)). AreSpaces g AB after) e.spaces in
     record {
       goes = Goes-next g a b start shelf is_shelf first before invariant.goes now after goes;
@@ -101,4 +101,4 @@ pub returns-clause-all : goal.returns-clause-all
 returns-clause-all c =
     let invariant = c.loop-space.invariant in
     HaveAll-some c.args.g.now c.args.numbers.now.items c.loop-space.space c.loop-space.growths.items
-    (let end = c.spaces-space-end.ensures.value in omega (arith, invariant.grown.many)) invariant.all
+    (let bound = c.spaces-space-end.ensures.value in omega (arith, invariant.grown.many)) invariant.all

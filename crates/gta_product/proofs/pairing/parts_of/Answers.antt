@@ -17,7 +17,7 @@ pub part_of-requires-clause-few : goal.part_of-requires-clause-few
 part_of-requires-clause-few c =
     let s = c.loop-space.space in
     let growths = c.args.growths.now.items in
-    let end = c.spaces-space-end.ensures.value in
+    let bound = c.spaces-space-end.ensures.value in
     c.requires.few s c.index-2.result.now (get-at growths s c.index-2.result.now (omega (arith, c.requires.growths, c.loop-space-test.true)) c.index-2.ensures)
 
 pub loop-space-preserved : goal.loop-space-preserved
@@ -29,7 +29,7 @@ loop-space-preserved c =
     let parts = c.loop-space.parts in
     let part = c.in_ok-part.part in
     let invariant = c.loop-space.invariant in
-    let end = c.spaces-space-end.ensures.value in
+    let bound = c.spaces-space-end.ensures.value in
     let inside : s < length g = omega (arith, c.loop-space-test.true) in
     let at = get-at growths s c.index-2.result.now (omega (arith, c.requires.growths, inside)) c.index-2.ensures in
     let is = get-at numbers s c.index.result.now (omega (arith, c.requires.numbers, inside)) c.index.ensures in
