@@ -70,7 +70,7 @@ returns-in_err-push-clause-joins c =
 
 pub loop-k-init : goal.loop-k-init
 loop-k-init c = record {
-  at = c.len.ensures;
+  at = c.len-k.ensures;
   joins = Joins-none (pairs (automaton_of c.args.shelf.now c.args.a.now) (automaton_of c.args.shelf.now c.args.b.now)) c.args.space
       (c.args.row ∷ []) c.args.columns.now c.args.shelf.now c.args.numbers.now c.requires.tables.is_shelf;
   row = c.requires.row;

@@ -4,7 +4,7 @@ use Rattle.gta_product.proofs.NumbersLemmas.{get-snoc}
 use Rattle.gta_product.proofs.growing.add_rows.Goals as goal
 
 pub loop-row-init : goal.loop-row-init
-loop-row-init c = record { at = sym (c.len.ensures ∙ c.args.cells.now.ok.0); few = c.requires; rows = λ i roots there. inl there }
+loop-row-init c = record { at = sym (c.len-row.ensures ∙ c.args.cells.now.ok.0); few = c.requires; rows = λ i roots there. inl there }
 
 pub loop-row-preserved : goal.loop-row-preserved
 loop-row-preserved c =

@@ -1,4 +1,4 @@
-use Rattle.std.proofs.Common.{List, [], ◌++◌, take, get_or, append-nil, append_assoc, sym, ◌∙◌, ap, arith}
+use Rattle.std.proofs.Common.{◌≡◌, ◌<◌, List, [], ◌∷◌, ◌++◌, length, take, get_or, append-nil, append_assoc, sym, ◌∙◌, ap, subst}
 use Rattle.std.proofs.lemmas.List.{take_more}
 use Rattle.bdd_nodes.specs.declared.node_ref.NodeRef.{NodeRef}
 use Rattle.gta_product.specs.Filling.{row_by_row}
@@ -12,8 +12,12 @@ pub loop-row-preserved : goal.loop-row-preserved
 loop-row-preserved c =
     let cells = c.args.cells.now.items in
     let i = c.loop-row.row-index in
-    let row = get_or cells i [] in
+    let row = c.row-item.result in
     let old = c.args.roots.now in
+    let lent : c.deref-row-items.result.now ≡ cells = c.deref-row-items.ensures.value in
+    let within = subst (λ (rows : List (List NodeRef)). i < length rows) lent c.loop-row-test.true in
+    let is = subst (λ (rows : List (List NodeRef)). row ≡ get_or rows i row) lent c.row-item.is in
+    let next = ap (λ (rs : List NodeRef). take i cells ++ rs ∷ []) is ∙ sym (take_more cells i row within) in
     c.in_ok-add_row.ensures ∙ ap (λ (rs : List NodeRef). c.loop-row.roots ++ rs) c.as_slice.ensures
     ∙ ap (λ (rs : List NodeRef). rs ++ row) c.loop-row.invariant ∙ append_assoc old (row_by_row (take i cells)) row
-    ∙ ap (λ (rs : List NodeRef). old ++ rs) (sym (row_by_row-more (take i cells) row) ∙ ap row_by_row (sym (take_more cells i [] (omega arith))))
+    ∙ ap (λ (rs : List NodeRef). old ++ rs) (sym (row_by_row-more (take i cells) row) ∙ ap row_by_row next)

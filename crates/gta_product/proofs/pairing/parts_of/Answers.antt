@@ -18,7 +18,7 @@ part_of-requires-clause-few c =
     let s = c.loop-space.space in
     let growths = c.args.growths.now.items in
     let bound = c.spaces-space-end.ensures.value in
-    c.requires.few s c.index-2.result.now (get-at growths s c.index-2.result.now (omega (arith, c.requires.growths, c.loop-space-test.true)) c.index-2.ensures)
+    c.requires.few s c.index-in-loop-space.result.now (get-at growths s c.index-in-loop-space.result.now (omega (arith, c.requires.growths, c.loop-space-test.true)) c.index-in-loop-space.ensures)
 
 pub loop-space-preserved : goal.loop-space-preserved
 loop-space-preserved c =
@@ -31,7 +31,7 @@ loop-space-preserved c =
     let invariant = c.loop-space.invariant in
     let bound = c.spaces-space-end.ensures.value in
     let inside : s < length g = omega (arith, c.loop-space-test.true) in
-    let at = get-at growths s c.index-2.result.now (omega (arith, c.requires.growths, inside)) c.index-2.ensures in
+    let at = get-at growths s c.index-in-loop-space.result.now (omega (arith, c.requires.growths, inside)) c.index-in-loop-space.ensures in
     let is = get-at numbers s c.index.result.now (omega (arith, c.requires.numbers, inside)) c.index.ensures in
     record {
       many =
@@ -41,7 +41,7 @@ loop-space-preserved c =
           omega arith;
       parts = λ AB a b shelf done. subst (λ (ps : List Part). AreParts g AB a b numbers shelf c.part_of.new.roots ps) (sym c.in_ok-push.ensures.ok)
           (AreParts-next g AB a b numbers shelf c.spaces-space-end.ensures.guide growths done parts s (sym invariant.many) inside
-          c.index-2.result.now at c.index.result.now is c.loop-space.roots c.part_of.new.roots part c.in_ok-part.ensures.roots
+          c.index-in-loop-space.result.now at c.index.result.now is c.loop-space.roots c.part_of.new.roots part c.in_ok-part.ensures.roots
           c.in_ok-part.ensures.part (invariant.parts AB a b shelf done));
     }
 

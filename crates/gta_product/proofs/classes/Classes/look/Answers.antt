@@ -7,7 +7,7 @@ use Rattle.gta_product.proofs.classes.Classes.look.Goals as goal
 
 pub loop-k-init : goal.loop-k-init
 loop-k-init c = record {
-  at = c.len.ensures;
+  at = c.len-k.ensures;
   ones = Extends-refl c.args.self.now.ones;
   keyed = c.requires.keyed;
 }
