@@ -1,5 +1,5 @@
 -- Joins of a space, one after the other.
-use Rattle.std.proofs.Common.{◌≡◌, ℕ, suc, List, [], ◌∷◌, ◌++◌, Option, Some, Contains, sym, ◌∙◌, ap, refl, inl, inr, arith}
+use Rattle.std.proofs.Common.{ℕ, suc, List, [], ◌∷◌, ◌++◌, Option, Some, Contains, sym, ◌∙◌, ap, refl, inl, inr, arith}
 use Rattle.std.specs.List.{All}
 use Rattle.std.proofs.lemmas.List.Elements.{All-cons}
 use Rattle.labels.specs.Labels.{Function}

@@ -1,5 +1,5 @@
 -- Rows of roots: a root more, a row more, longer lists, and the roots of all rows.
-use Rattle.std.proofs.Common.{◌≡◌, ℕ, zero, suc, ◌+◌, ◌*◌, ◌<◌, ◌≤◌, ◌⊎◌, List, [], ◌∷◌, ◌++◌, length, length-append, append_assoc, append-nil}
+use Rattle.std.proofs.Common.{◌≡◌, ℕ, zero, suc, ◌+◌, ◌*◌, ◌<◌, ◌⊎◌, List, [], ◌∷◌, ◌++◌, length, length-append, append_assoc, append-nil}
 use Rattle.std.proofs.Common.{Option, Some, get_or, slice_get, sym, ◌∙◌, ap, refl, subst, inl, inr, arith, suc-mul}
 use Rattle.std.specs.Prelude.{slice_set}
 use Rattle.std.specs.List.{All}

@@ -1,5 +1,5 @@
 -- A row is joined with one more column after the other.
-use Rattle.std.proofs.Common.{◌≡◌, ℕ, List, Option, [], ◌∷◌, get_or, slice_get, length, length-append, IsSome, sym, ◌∙◌, ap, subst, arith}
+use Rattle.std.proofs.Common.{ℕ, List, Option, [], ◌∷◌, get_or, slice_get, length, length-append, IsSome, sym, ◌∙◌, ap, subst, arith}
 use Rattle.std.proofs.lemmas.List.Elements.{Contains-get_or}
 use Rattle.std.proofs.lemmas.Option.{slice_get-get_or}
 use Rattle.bdd_nodes.specs.declared.node_ref.NodeRef.{NodeRef}

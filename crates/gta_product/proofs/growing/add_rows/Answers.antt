@@ -1,4 +1,4 @@
-use Rattle.std.proofs.Common.{◌≡◌, ◌+◌, List, [], ◌∷◌, length, length-append, Some, slice_get, sym, ◌∙◌, ap, inl, inr, arith}
+use Rattle.std.proofs.Common.{List, [], ◌∷◌, length, length-append, slice_get, sym, ◌∙◌, ap, inl, inr, arith}
 use Rattle.bdd_nodes.specs.declared.node_ref.NodeRef.{NodeRef}
 use Rattle.gta_product.proofs.NumbersLemmas.{get-snoc}
 use Rattle.gta_product.proofs.growing.add_rows.Goals as goal

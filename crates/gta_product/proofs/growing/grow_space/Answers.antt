@@ -1,5 +1,5 @@
 -- The new rows with all columns, and then the earlier rows with the new ones.
-use Rattle.std.proofs.Common.{◌≡◌, ◌*◌, ℕ, List, length, ◌∙◌, ap, arith}
+use Rattle.std.proofs.Common.{◌≡◌, ◌*◌, ℕ, length, ◌∙◌, ap, arith}
 use Rattle.gta_theory.specs.Guides.{left, right}
 use Rattle.gta_theory.specs.Automata.{Automaton}
 use Rattle.gta_theory.specs.Constructions.{pairs}

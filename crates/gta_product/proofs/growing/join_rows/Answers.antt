@@ -1,5 +1,5 @@
 -- A space is joined for generated pairs.
-use Rattle.std.proofs.Common.{◌≡◌, ℕ, List, Option, Some, Contains, length, slice_get, sym, ◌∙◌, ap, subst, arith}
+use Rattle.std.proofs.Common.{◌≡◌, ℕ, List, Option, Some, Contains, length, slice_get, sym, ◌∙◌, subst, arith}
 use Rattle.std.specs.Prelude.{None, slice_set}
 use Rattle.bdd_walk.specs.Fits.{Fits}
 use Rattle.gta_theory.specs.Guides.{left, right}

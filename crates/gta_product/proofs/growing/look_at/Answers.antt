@@ -1,5 +1,5 @@
 -- The pairs that have come have classes, and each class a row.
-use Rattle.std.proofs.Common.{◌≡◌, ℕ, List, Option, Some, length, get_or, slice_get, refl, sym, ◌∙◌, ap, subst, arith}
+use Rattle.std.proofs.Common.{◌≡◌, ℕ, List, Option, Some, length, get_or, refl, sym, ◌∙◌, ap, subst, arith}
 use Rattle.std.specs.Prelude.{unwrap_or}
 use Rattle.std.proofs.lemmas.Option.{slice_get-get_or}
 use Rattle.gta_theory.specs.Guides.{left, right}

@@ -1,5 +1,5 @@
 -- One space after the other.
-use Rattle.std.proofs.Common.{◌≡◌, ◌<◌, ℕ, List, [], ◌∷◌, length, length-append, Some, slice_get, sym, ◌∙◌, ap, subst, arith}
+use Rattle.std.proofs.Common.{◌<◌, List, [], ◌∷◌, length, length-append, sym, ap, subst, arith}
 use Rattle.gta_core.specs.declared.part.Part.{Part}
 use Rattle.gta_product.specs.Building.{AreParts}
 use Rattle.gta_product.proofs.PartLemmas.{get-at}

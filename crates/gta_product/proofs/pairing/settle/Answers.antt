@@ -1,5 +1,5 @@
 -- The product is built as pairs come; at the end each space was joined for all pairs of its children.
-use Rattle.std.proofs.Common.{ℕ, ◌∙◌}
+use Rattle.std.proofs.Common.{◌∙◌}
 use Rattle.gta_theory.specs.Constructions.{pairs}
 use Rattle.gta_core.specs.Auto.{automaton_of}
 use Rattle.gta_product.proofs.ProductLemmas.{Building-start, Leaves-none, Leaves-goes, Exceeded-start, AreDone-goes}

@@ -1,5 +1,5 @@
 -- One pair after the other.
-use Rattle.std.proofs.Common.{◌≡◌, ℕ, length, get_or, slice_get, sym, ◌∙◌, ap, arith}
+use Rattle.std.proofs.Common.{slice_get, sym, ◌∙◌, ap, arith}
 use Rattle.std.proofs.lemmas.Option.{slice_get-get_or}
 use Rattle.gta_product.proofs.NumbersLemmas.{Extends-refl, Extends-trans}
 use Rattle.gta_product.proofs.KeyedLemmas.{looked-most}
