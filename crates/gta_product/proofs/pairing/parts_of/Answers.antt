@@ -16,9 +16,10 @@ loop-space-init c = record {
 pub part_of-requires-clause-few : goal.part_of-requires-clause-few
 part_of-requires-clause-few c =
     let s = c.loop-space.space in
-    let growths = c.args.growths.now.items in
+    let growth = c.index-in-loop-space.result.now in
     let bound = c.spaces-space-end.ensures.value in
-    c.requires.few s c.index-in-loop-space.result.now (get-at growths s c.index-in-loop-space.result.now (omega (arith, c.requires.growths, c.loop-space-test.true)) c.index-in-loop-space.ensures)
+    let at = get-at c.args.growths.now.items s growth (omega (arith, c.requires.growths, c.loop-space-test.true)) c.index-in-loop-space.ensures in
+    c.requires.few s growth at
 
 pub loop-space-preserved : goal.loop-space-preserved
 loop-space-preserved c =
