@@ -1,5 +1,5 @@
 -- A space is filled: the product goes on being built.
-use Rattle.std.proofs.Common.{◌≡◌, ◌≢◌, ℕ, List, ◌++◌, length, Option, Some, Contains, slice_get, sym, ◌∙◌, ap, subst, inl, inr}
+use Rattle.std.proofs.Common.{◌≡◌, ◌≢◌, ℕ, List, ◌++◌, length, Option, Some, slice_get, sym, ◌∙◌, ap, subst, inl, inr}
 use Rattle.std.proofs.lemmas.Bool.Decides.{eqb_tells}
 use Rattle.labels.specs.Labels.{Function}
 use Rattle.bdd_nodes.specs.Shelf.{Contents}
@@ -42,14 +42,6 @@ module _ (old new : List (List (ℕ × ℕ))) (s : ℕ) (before after : List (�
   }
 
 module _ (g : Spaces) (AB : Automaton (ℕ × ℕ)) where
-  -- pairs of the list that a space has are generated
-  pub AreGenerated-list : (spaces : List (List (ℕ × ℕ))) → AreSpaces g AB spaces → (s : ℕ) (list pairs : List (ℕ × ℕ)) → slice_get spaces s ≡ Some list →
-      ((x : ℕ × ℕ) → Contains pairs x → (k : ℕ) × (slice_get list k ≡ Some x)) → AreGenerated g AB s pairs
-  AreGenerated-list spaces are s list pairs at inside = λ x there. let k = inside x there in (are.each s list at).generated k.0 x k.1
-
-  pub AreSpaces-building : (first shelf : Contents) (spaces : List (List (ℕ × ℕ))) → Building g AB first shelf spaces → AreSpaces g AB spaces
-  AreSpaces-building first shelf spaces building = building.are
-
   module _ (s : ℕ) (inside : IsSpace g s) (old new : List (List (ℕ × ℕ))) (before after : List (ℕ × ℕ))
       (are : AreSpaces g AB old) (sets : SetsSpace old new s before after) (rows columns : List (ℕ × ℕ))
       (row-generated : AreGenerated g AB (left g s) rows) (column-generated : AreGenerated g AB (right g s) columns) where

@@ -35,10 +35,10 @@ module _ (g : Spaces) (first : Contents) (a b : AutoView) (s : ℕ) (lefts right
     pub cell : IsCell (pairs (automaton_of first a) (automaton_of first b)) s numbers p q shelf root
 
   module _ (l r : ℕ) (p q : ℕ × ℕ) (at_l : slice_get lefts l ≡ Some p) (at_r : slice_get rights r ≡ Some q) where
-    row-of : IsClassed lefts part_a.rows part_b.rows (record { of = part.rows; ones = built.rows }) l p
+    row-of : IsClassed part_a.rows part_b.rows part.rows built.rows l p
     row-of = built.row_classes.each l p at_l
 
-    column-of : IsClassed rights part_a.columns part_b.columns (record { of = part.columns; ones = built.columns }) r q
+    column-of : IsClassed part_a.columns part_b.columns part.columns built.columns r q
     column-of = built.column_classes.each r q at_r
 
     same-step : (label : Label) → (pairs (automaton_of first a) (automaton_of first b)).step s (row-of).one (column-of).one label

@@ -61,8 +61,8 @@ module _ (pairs : List (ℕ × ℕ)) (left right of : List ℕ) (ones keys ones_
 
   -- a class that stands keeps its pair, and its states
   kept-class : ((k : ℕ) (one : ℕ × ℕ) → slice_get ones k ≡ Some one → slice_get ones_after k ≡ Some one) →
-      (k : ℕ) (q : ℕ × ℕ) → IsClassed pairs left right (record { of = of; ones = ones }) k q →
-      IsClassed pairs_after left right (record { of = of_after; ones = ones_after }) k q
+      (k : ℕ) (q : ℕ × ℕ) → IsClassed left right of ones k q →
+      IsClassed left right of_after ones_after k q
   kept-class kept k q is = record {
     class = is.class;
     has = get-kept of (class ∷ []) is.class k is.has;
@@ -72,8 +72,8 @@ module _ (pairs : List (ℕ × ℕ)) (left right of : List ℕ) (ones keys ones_
   }
 
   used-class : ((k : ℕ) (one : ℕ × ℕ) → slice_get ones k ≡ Some one → slice_get ones_after k ≡ Some one) →
-      (k : ℕ) (one : ℕ × ℕ) → slice_get ones k ≡ Some one → IsClass pairs (record { of = of; ones = ones }) k →
-      IsClass pairs_after (record { of = of_after; ones = ones_after }) k
+      (k : ℕ) (one : ℕ × ℕ) → slice_get ones k ≡ Some one → IsClass pairs of ones k →
+      IsClass pairs_after of_after ones_after k
   used-class kept k one there is =
       let q = get-index (0, 0) pairs is.at is.inside in
       record {
@@ -152,7 +152,7 @@ module _ (pairs : List (ℕ × ℕ)) (left right of : List ℕ) (ones keys ones_
     class_within : class < length ones
     class_within = let e = keyed.many in let f = ap length keys_is in let g = place in omega arith
 
-    classed_known : IsClassed pairs_after left right (record { of = of_after; ones = ones_after }) (length pairs) pair
+    classed_known : IsClassed left right of_after ones_after (length pairs) pair
     classed_known =
         let one = get-index (0, 0) ones class class_within in
         let key_one = keyed.key class one.0 one.1 in
@@ -175,8 +175,8 @@ module _ (pairs : List (ℕ × ℕ)) (left right of : List ℕ) (ones keys ones_
           | inl before ↦ kept-class kept_known k q (keyed.classes.each k q before)
           | inr last ↦
               let is = classed_known in
-              subst (λ (p : ℕ × ℕ). IsClassed (pairs ++ pair ∷ []) left right (record { of = of ++ class ∷ []; ones = ones_after }) k p) (sym last.1)
-              (subst (λ (n : ℕ). IsClassed (pairs ++ pair ∷ []) left right (record { of = of ++ class ∷ []; ones = ones_after }) n pair) (sym last.0) is)
+              subst (λ (p : ℕ × ℕ). IsClassed left right (of ++ class ∷ []) ones_after k p) (sym last.1)
+              (subst (λ (n : ℕ). IsClassed left right (of ++ class ∷ []) ones_after n pair) (sym last.0) is)
         ];
         used = λ k within.
             let below : k < length ones = let e = ap length ones_is in omega arith in

@@ -22,23 +22,13 @@ use Rattle.gta_theory.proofs.GeneratedLemmas.{IsStable-closed, IsProduct-generat
 use Rattle.gta_core.specs.declared.part.Part.{Part}
 use Rattle.gta_core.specs.Auto.{AutoView, states_of, is_accepting, guide_of, place_in, place_of, root_at, automaton_of, IsUsed, IsAuto, IsWhole}
 use Rattle.gta_core.proofs.AutoLemmas.{past-none, step-some}
-use Rattle.gta_product.specs.Numbers.{number_in, Extends}
+use Rattle.gta_product.specs.Numbers.{number_in}
 use Rattle.gta_product.specs.Filling.{IsCell}
 use Rattle.gta_product.specs.Building.{AreSpaces, IsPartOf, AreParts, ExtendAll}
-use Rattle.gta_product.proofs.NumbersLemmas.{number_in-get}
+use Rattle.gta_product.proofs.NumbersLemmas.{number_in-get, ext, extends-same}
 use Rattle.gta_core.specs.Placing.{HasPlace}
 use Rattle.gta_core.proofs.CellsLemmas.{get-index}
 use Rattle.gta_product.proofs.CellsLemmas.{has-root, is-place}
-
--- lists with the same elements are the same
-ext : {X : Type 0} (xs ys : List X) → ((i : ℕ) → slice_get xs i ≡ slice_get ys i) → xs ≡ ys
-ext [] [] same = refl
-ext [] (y ∷ ys) same = let e = same 0 in absurd cc
-ext (x ∷ xs) [] same = let e = same 0 in absurd cc
-ext {X} (x ∷ xs) (y ∷ ys) same =
-    let e : ◌≡◌ {A = Option X} (Some x) (Some y) = same 0 in
-    let first : x ≡ y = cc in
-    ap (λ (z : X). z ∷ xs) first ∙ ap (λ (zs : List X). y ∷ zs) (ext xs ys (λ i. same (suc i)))
 
 within-some : {X : Type 0} (xs : List X) (i : ℕ) → IsSome (slice_get xs i) → i < length xs
 within-some [] i some = absurd (false≢true some)
@@ -61,7 +51,7 @@ same_number a b e = cc
 module _ (g : Spaces) (guide : IsGuide g) (first now : Contents) (a b : AutoView) (auto_a : IsAuto g first a)
     (auto_b : IsAuto g first b) (spaces : List (List (ℕ × ℕ))) (are : AreSpaces g (pairs (automaton_of first a) (automaton_of first b)) spaces)
     (parts : List Part) (many : length parts ≡ length g) (roots : List NodeRef)
-    (built : AreParts g (pairs (automaton_of first a) (automaton_of first b)) a b spaces spaces now roots parts)
+    (built : AreParts g (pairs (automaton_of first a) (automaton_of first b)) a b spaces now roots parts)
     (table : ℕ) (root_pairs : List (ℕ × ℕ)) (at_root : slice_get spaces 0 ≡ Some root_pairs) where
   abbrev pub both : Automaton (ℕ × ℕ)
   both = pairs (automaton_of first a) (automaton_of first b)
@@ -80,7 +70,7 @@ module _ (g : Spaces) (guide : IsGuide g) (first now : Contents) (a b : AutoView
   record At (s : ℕ) : Type 0 where
     part : Part
     there : slice_get parts s ≡ Some part
-    of : IsPartOf g both a b spaces spaces now roots s part
+    of : IsPartOf g both a b spaces now roots s part
 
   at : (s : ℕ) → IsSpace g s → At s
   at s inside =
@@ -356,13 +346,6 @@ module _ (g : Spaces) (guide : IsGuide g) (first now : Contents) (a b : AutoView
     }
 
 -- spaces that keep their pairs, and have as many, are the same
-same-list : (old new : List (ℕ × ℕ)) → Extends old new → length old ≡ length new → old ≡ new
-same-list old new extends many = ext old new (λ k. pick k (slice_get old k) refl)
-  where
-    pick : (k : ℕ) (o : Option (ℕ × ℕ)) → slice_get old k ≡ o → slice_get old k ≡ slice_get new k
-    pick k None none = none ∙ sym (slice_get_past new k (omega (arith, past-none old k none)))
-    pick k (Some pair) there = there ∙ sym (extends.kept k pair there)
-
 pub same-spaces : (old new : List (List (ℕ × ℕ))) → ExtendAll old new →
     map (λ (pairs : List (ℕ × ℕ)). length pairs) old ≡ map (λ (pairs : List (ℕ × ℕ)). length pairs) new → old ≡ new
 same-spaces old new extends counts = ext old new (λ s. pick s (slice_get old s) (slice_get new s) refl refl)
@@ -380,4 +363,5 @@ same-spaces old new extends counts = ext old new (λ s. pick s (slice_get old s)
         let counted : ◌≡◌ {A = Option ℕ} (Some (length pairs)) (Some (length more)) =
         ap (option_map (λ (ps : List (ℕ × ℕ)). length ps)) (sym was) ∙ count-at s ∙ ap (option_map (λ (ps : List (ℕ × ℕ)). length ps)) is in
         was ∙ ap (λ (ps : List (ℕ × ℕ)). let o : Option (List (ℕ × ℕ)) = Some ps in o)
-        (same-list pairs more (extends.each s pairs more was is) (same_number (length pairs) (length more) counted)) ∙ sym is
+        (extends-same pairs more (extends.each s pairs more was is)
+        (let many = same_number (length pairs) (length more) counted in omega arith)) ∙ sym is

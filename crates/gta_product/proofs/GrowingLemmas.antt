@@ -1,32 +1,23 @@
 -- A product that goes on being built, step after step, and how much room is left for pairs.
-use Rattle.std.proofs.Common.{◌≡◌, ◌≢◌, ℕ, suc, ◌*◌, ◌^◌, ◌≤◌, ◌<◌, List, [], ◌∷◌}
-use Rattle.std.proofs.Common.{◌⊎◌, length, map, Option, Some, Result, Ok, Err, OnOk, Contains, slice_get}
+use Rattle.std.proofs.Common.{◌≡◌, ◌≢◌, ℕ, suc, ◌^◌, ◌≤◌, ◌<◌, List, [], ◌∷◌, length, map, Some, Result, Ok, Err, OnOk, slice_get}
 use Rattle.std.proofs.Common.{refl, sym, ◌∙◌, ap, subst, inl, inr, arith}
 use Rattle.std.specs.Prelude.{slice_set}
 use Rattle.std.proofs.lemmas.Bool.{cases_lt}
 use Rattle.std.proofs.lemmas.Bool.Decides.{eqb_tells}
-use Rattle.std.proofs.lemmas.List.Elements.{Contains-append_cases}
-use Rattle.std.proofs.lemmas.Option.{slice_get_within, get_or_from_slice_get}
-use Rattle.bdd_nodes.specs.Shelf.{Contents, IsShelf, limit_of}
+use Rattle.bdd_nodes.specs.Shelf.{Contents, IsShelf}
 use Rattle.bdd_nodes.proofs.CallerLemmas.{Keeps-refl, Keeps-trans}
 use Rattle.bdd_walk.specs.Answers.{Completes}
 use Rattle.gta_theory.specs.Guides.{Spaces, IsSpace, left, right}
 use Rattle.gta_theory.specs.Automata.{Automaton}
 use Rattle.gta_theory.specs.Constructions.{pairs}
-use Rattle.gta_theory.proofs.ListsLemmas.{All-from_contains}
 use Rattle.gta_core.specs.Auto.{AutoView, automaton_of, IsAuto}
-use Rattle.gta_product.specs.declared.growing.Seen.{Seen}
-use Rattle.gta_product.specs.declared.growing.Growth.{Growth}
-use Rattle.gta_product.specs.Classes.{Notes, known, fresh}
-use Rattle.gta_product.specs.Numbers.{numbered, AreNumbers, Extends}
+use Rattle.gta_product.specs.Numbers.{numbered, AreNumbers}
 use Rattle.gta_product.specs.Filling.{Joins, ExceedsCells}
-use Rattle.gta_product.specs.Building.{AreSpaces, CompleteAll, ExceedsSteps, HasManyCells, Building, Exceeded, ExtendAll}
-use Rattle.gta_product.specs.Growing.{AreGenerated, HasSeen, HaveSeen, Goes, LacksRoom, room_left}
+use Rattle.gta_product.specs.Building.{AreSpaces, ExtendAll}
+use Rattle.gta_product.specs.Growing.{AreGenerated, Goes, LacksRoom, room_left}
+use Rattle.gta_product.proofs.NumbersLemmas.{extends-longer}
 use Rattle.gta_product.proofs.BuildingLemmas.{SetsSpace, ExtendAll-set, AreSpaces-set, Building-set, ExceedsSteps-set}
-use Rattle.gta_core.proofs.CellsLemmas.{get-index}
-use Rattle.gta_product.proofs.PartLemmas.{SetsSpace-at, get-set, get-set_other, length-set_at, parts-length}
-use Rattle.gta_product.proofs.KeyedLemmas.{IsKeyed-none, ones-differ}
-use Rattle.gta_product.proofs.NextLemmas.{alone-is}
+use Rattle.gta_product.proofs.PartLemmas.{SetsSpace-at}
 use Rattle.gta_product.proofs.SameLemmas.{ExtendAll-refl, ExtendAll-trans}
 use Rattle.gta_product.proofs.ShelfLemmas.{both-kept, auto-kept}
 
@@ -56,22 +47,6 @@ module _ (g : Spaces) (AB : Automaton (ℕ × ℕ)) where
       LacksRoom g AB middle between after → LacksRoom g AB old before after
   LacksRoom-after old middle before between after first lacks =
       λ start building given completes. lacks start (first.building start building) given completes
-
-  pub HaveSeen-set : (a b : AutoView) (growths : List Growth) (s : ℕ) (growth : Growth) → HaveSeen g AB a b growths → s < length growths →
-      HasSeen g AB a b s growth → HaveSeen g AB a b (slice_set growths s growth)
-  HaveSeen-set a b growths s growth have within here = record {
-    many = length-set_at growths s growth ∙ have.many;
-    each = λ t other there. elim (eqb_tells t s) [
-      | inl same ↦
-          let is : ◌≡◌ {A = Option Growth} (Some growth) (Some other) =
-          sym (get-set growths s growth within) ∙ ap (slice_get (slice_set growths s growth)) (sym same.1) ∙ there in
-          subst (λ (n : ℕ). HasSeen g AB a b n other) (sym same.1) (subst (HasSeen g AB a b s) (same-growth growth other is) here)
-      | inr apart ↦ have.each t other (sym (get-set_other growths s t growth apart.1) ∙ there)
-    ];
-  }
-    where
-      same-growth : (one other : Growth) → ◌≡◌ {A = Option Growth} (Some one) (Some other) → one ≡ other
-      same-growth one other e = cc
 
 -- a space was filled
 module _ (g : Spaces) (AB : Automaton (ℕ × ℕ)) (s : ℕ) (inside : IsSpace g s) (spaces : List (List (ℕ × ℕ))) (are : AreSpaces g AB spaces)
@@ -131,15 +106,6 @@ module _ (g : Spaces) (a b : AutoView) (old middle : Contents) (is_shelf : IsShe
   LacksRoom-next after lacks = LacksRoom-after g (pairs (automaton_of old a) (automaton_of old b)) old middle before between after first
       (both-back (λ (AB : Automaton (ℕ × ℕ)). LacksRoom g AB middle between after) lacks)
 
--- a list that keeps its places is no shorter
-extends-longer : (old new : List (ℕ × ℕ)) → Extends old new → length old ≤ length new
-extends-longer old new extends = elim (cases_lt (length new) (length old)) [
-  | inl shorter ↦
-      let one = get-index old (length new) shorter in
-      absurd (omega (arith, slice_get_within new (length new) one.0 (extends.kept (length new) one.0 one.1)))
-  | inr longer ↦ longer
-]
-
 -- the other spaces of two that extend
 others : (x y : List (ℕ × ℕ)) (xs ys : List (List (ℕ × ℕ))) → ExtendAll (x ∷ xs) (y ∷ ys) → ExtendAll xs ys
 others x y xs ys extends = record {
@@ -147,7 +113,7 @@ others x y xs ys extends = record {
   each = λ s pairs more was is. extends.each (suc s) pairs more was is;
 }
 
-pub room-most : (old new : List (List (ℕ × ℕ))) → ExtendAll old new → room_left new ≤ room_left old
+room-most : (old new : List (List (ℕ × ℕ))) → ExtendAll old new → room_left new ≤ room_left old
 room-most [] [] extends = omega arith
 room-most [] (y ∷ ys) extends = absurd (omega (arith, extends.many))
 room-most (x ∷ xs) [] extends = absurd (omega (arith, extends.many))
@@ -184,57 +150,6 @@ room-less (x ∷ xs) (y ∷ ys) extends few differ =
       | inr not ↦ absurd (apart (omega arith))
     ]
 
--- what stands in a list is contained
-pub contains-at : {X : Type 0} (xs : List X) (k : ℕ) (x : X) → slice_get xs k ≡ Some x → Contains xs x
-contains-at xs k x there = (k, slice_get_within xs k x there, get_or_from_slice_get xs k x x there)
-
--- a pair that joins the ones
-pub Notes-only : (class : ℕ) (pair : ℕ × ℕ) (old new : List (ℕ × ℕ)) → Notes class pair old new → (x : ℕ × ℕ) → Contains new x →
-    Contains old x ⊎ (x ≡ pair)
-Notes-only class pair old new (known apart same) x there = inl (subst (λ (ps : List (ℕ × ℕ)). Contains ps x) same there)
-Notes-only class pair old new (fresh at is) x there =
-    elim (Contains-append_cases old (pair ∷ []) x (subst (λ (ps : List (ℕ × ℕ)). Contains ps x) is there)) [
-      | inl before ↦ inl before
-      | inr last ↦ inr (sym (alone-is pair x last))
-    ]
-
--- nothing was looked at
-pub record IsNew (seen : Seen) : Type 0 where
-  pub ones : seen.ones ≡ []
-  pub keys : seen.keys ≡ []
-
-pub HasSeen-none : (g : Spaces) (AB : Automaton (ℕ × ℕ)) (a b : AutoView) (s : ℕ) (growth : Growth) → IsNew growth.rows → IsNew growth.columns →
-    HasSeen g AB a b s growth
-HasSeen-none g AB a b s growth rows columns = record {
-  rows = λ pair there. absurd (nowhere pair (subst (λ (ps : List (ℕ × ℕ)). Contains ps pair) rows.ones there));
-  columns = λ pair there. absurd (nowhere pair (subst (λ (ps : List (ℕ × ℕ)). Contains ps pair) columns.ones there));
-  row_keys = λ first second in_a in_b. IsKeyed-none first.rows second.rows growth.rows rows.ones rows.keys;
-  column_keys = λ first second in_a in_b. IsKeyed-none first.columns second.columns growth.columns columns.ones columns.keys;
-}
-  where
-    nowhere : (pair : ℕ × ℕ) → Contains [] pair → ⊥
-    nowhere pair there = omega (arith, there.1)
-
--- a space for which joins would make more roots than go with the limit
-pub LacksRoom-cells : (g : Spaces) (shelf : Contents) (a b : AutoView) → IsAuto g shelf a → IsAuto g shelf b → (s : ℕ) → IsSpace g s → (growth : Growth) →
-    HasSeen g (pairs (automaton_of shelf a) (automaton_of shelf b)) a b s growth →
-    16 * limit_of shelf < length growth.rows.ones * length growth.columns.ones → (before after : List (List (ℕ × ℕ))) →
-    LacksRoom g (pairs (automaton_of shelf a) (automaton_of shelf b)) shelf before after
-LacksRoom-cells g shelf a b auto_a auto_b s inside growth seen many before after = λ start building given completes.
-    let first = get-index a.parts s (omega (arith, inside, parts-length g shelf a auto_a)) in
-    let second = get-index b.parts s (omega (arith, inside, parts-length g shelf b auto_b)) in
-    inr (record {
-      space = s;
-      inside = inside;
-      rows = growth.rows.ones;
-      columns = growth.columns.ones;
-      in_left = All-from_contains _ growth.rows.ones seen.rows;
-      in_right = All-from_contains _ growth.columns.ones seen.columns;
-      rows_differ = ones-differ first.0.rows second.0.rows growth.rows (seen.row_keys first.0 second.0 first.1 second.1);
-      columns_differ = ones-differ first.0.columns second.0.columns growth.columns (seen.column_keys first.0 second.0 first.1 second.1);
-      many = omega (arith, many, building.same_limit);
-    })
-
 -- what follows where a call answers Ok
 pub on-ok : {T E P Q : Type 0} (r : Result T E) → (P → Q) → OnOk r P → OnOk r Q
 on-ok (Ok x) follows holds = follows holds
@@ -247,37 +162,3 @@ on-ok-both (Err e) follows one other = tt
 pub on-ok-always : {T E P : Type 0} (r : Result T E) → P → OnOk r P
 on-ok-always (Ok x) holds = holds
 on-ok-always (Err e) holds = tt
-
--- the product that is being built since the shelf was as at first
-module _ (g : Spaces) (a b : AutoView) (first now : Contents) (is_shelf : IsShelf first) (before : List (List (ℕ × ℕ)))
-    (building : Building g (pairs (automaton_of first a) (automaton_of first b)) first now before) where
-  pub same-now : pairs (automaton_of now a) (automaton_of now b) ≡ pairs (automaton_of first a) (automaton_of first b)
-  same-now = both-kept first now is_shelf building.keeps building.tables a b
-
-  pub to-now : (P : Automaton (ℕ × ℕ) → Type 0) → P (pairs (automaton_of first a) (automaton_of first b)) →
-      P (pairs (automaton_of now a) (automaton_of now b))
-  to-now P = subst P (sym same-now)
-
-  pub to-first : (P : Automaton (ℕ × ℕ) → Type 0) → P (pairs (automaton_of now a) (automaton_of now b)) →
-      P (pairs (automaton_of first a) (automaton_of first b))
-  to-first P = subst P same-now
-
-  pub auto-now : (c : AutoView) → IsAuto g first c → IsAuto g now c
-  auto-now c = auto-kept first now is_shelf building.keeps building.tables g c
-
-  pub Building-goes : (new : Contents) (after : List (List (ℕ × ℕ))) →
-      ((start : Contents) → Building g (pairs (automaton_of now a) (automaton_of now b)) start now before →
-      Building g (pairs (automaton_of now a) (automaton_of now b)) start new after) →
-      Building g (pairs (automaton_of first a) (automaton_of first b)) first new after
-  Building-goes new after goes =
-      to-first (λ (AB : Automaton (ℕ × ℕ)). Building g AB first new after)
-      (goes first (to-now (λ (AB : Automaton (ℕ × ℕ)). Building g AB first now before) building))
-
-  pub Exceeded-goes : (after : List (List (ℕ × ℕ))) → LacksRoom g (pairs (automaton_of now a) (automaton_of now b)) now before after →
-      Exceeded g (pairs (automaton_of first a) (automaton_of first b)) first
-  Exceeded-goes after lacks = record {
-    spaces = after;
-    exceeds = λ given completes. to-first (λ (AB : Automaton (ℕ × ℕ)). ExceedsSteps g AB first given ⊎ HasManyCells g AB first)
-        (lacks first (to-now (λ (AB : Automaton (ℕ × ℕ)). Building g AB first now before) building) given
-        (to-now (λ (AB : Automaton (ℕ × ℕ)). CompleteAll g AB after given) completes));
-  }

@@ -1,8 +1,6 @@
 -- Joins of a space, one after the other.
-use Rattle.std.proofs.Common.{◌≡◌, ℕ, zero, suc, ◌+◌, ◌*◌, ◌<◌, List, [], ◌∷◌, ◌++◌, length, length-append, Option, Some, None, Contains}
-use Rattle.std.proofs.Common.{slice_get, sym, ◌∙◌, ap, refl, subst, inl, inr, arith, suc-mul, mul-le-mul_right}
+use Rattle.std.proofs.Common.{ℕ, suc, List, [], ◌∷◌, ◌++◌, Option, Some, Contains, sym, ◌∙◌, ap, refl, inl, inr, arith}
 use Rattle.std.specs.List.{All}
-use Rattle.std.proofs.lemmas.Option.{slice_get_within}
 use Rattle.std.proofs.lemmas.List.Elements.{All-cons}
 use Rattle.labels.specs.Labels.{Function}
 use Rattle.bdd_nodes.specs.declared.node_ref.NodeRef.{NodeRef}
@@ -13,8 +11,8 @@ use Rattle.bdd_walk.specs.Answers.{Completes}
 use Rattle.bdd_walk.proofs.AddsAmongLemmas.{AddsAmong-none, AddsAmong-more, ExceedsAmong-more}
 use Rattle.gta_theory.specs.Automata.{Automaton}
 use Rattle.gta_product.specs.Numbers.{numbered, AreNumbers, Extends}
-use Rattle.gta_product.specs.Filling.{IsCell, IsMade, IsCellFunction, ExceedsCells, Joins, IsRow, AreCells}
-use Rattle.gta_product.proofs.NumbersLemmas.{Extends-refl, Extends-trans, Completes-extends, number_in-extends, get-snoc, get-last}
+use Rattle.gta_product.specs.Filling.{IsCell, IsMade, IsCellFunction, ExceedsCells, Joins}
+use Rattle.gta_product.proofs.NumbersLemmas.{Extends-refl, Extends-trans, Completes-extends, number_in-extends}
 
 pub All-tail : {X : Type 0} (P : X → Type 0) (x : X) (xs : List X) → All P (x ∷ xs) → All P xs
 All-tail P x xs all = λ k d within. all (suc k) d (omega arith)
@@ -34,14 +32,6 @@ All-weaker P Q weaker (x ∷ xs) all =
 
 pub All-alone : {X : Type 0} (P : X → Type 0) (x : X) → P x → All P (x ∷ [])
 All-alone P x holds = All-cons P x [] holds (λ k d within. absurd (omega arith))
-
-pub get-before : {X : Type 0} (xs ys : List X) (k : ℕ) → k < length xs → slice_get (xs ++ ys) k ≡ slice_get xs k
-get-before [] ys k within = absurd (omega arith)
-get-before (x ∷ xs) ys zero within = refl
-get-before (x ∷ xs) ys (suc k) within = get-before xs ys k (omega arith)
-
-same_root : (a b : NodeRef) → ◌≡◌ {A = Option NodeRef} (Some a) (Some b) → a ≡ b
-same_root a b e = cc
 
 module _ (AB : Automaton (ℕ × ℕ)) (s : ℕ) where
   -- more rows, and more columns
@@ -151,80 +141,3 @@ module _ (AB : Automaton (ℕ × ℕ)) (s : ℕ) where
     states = λ label. number_in-extends pairs more numbers extends _ _ (cell.states label)
         ∙ ap (λ (n : ℕ). let o : Option ℕ = Some n in o) (sym (keeps.states root label cell.valid));
   }
-
-  pub IsRow-none : (row : ℕ × ℕ) (pairs : List (ℕ × ℕ)) (shelf : Contents) (roots : List NodeRef) → IsRow AB s row [] pairs shelf roots roots
-  IsRow-none row pairs shelf roots = record {
-    grown = record { longer = omega arith; kept = λ place within. refl };
-    many = omega arith;
-    cell = λ j column root at_column at. absurd (let f : ◌≡◌ {A = Option (ℕ × ℕ)} None (Some column) = at_column in cc);
-  }
-
-  -- a root more in a row
-  pub IsRow-more : (row : ℕ × ℕ) (columns : List (ℕ × ℕ)) (column : ℕ × ℕ) (pairs more : List (ℕ × ℕ)) (shelf after : Contents)
-      (old middle : List NodeRef) (root : NodeRef) → Keeps shelf after → AreNumbers more → Extends pairs more →
-      IsRow AB s row columns pairs shelf old middle → IsCell AB s more row column after root →
-      IsRow AB s row (columns ++ column ∷ []) more after old (middle ++ root ∷ [])
-  IsRow-more row columns column pairs more shelf after old middle root keeps numbers extends is cell = record {
-    grown = record {
-      longer = omega (arith, is.grown.longer, length-append middle (root ∷ []));
-      kept = λ place within. get-before middle (root ∷ []) place (omega (arith, is.grown.longer)) ∙ is.grown.kept place within;
-    };
-    many = omega (arith, is.many, length-append middle (root ∷ []), length-append columns (column ∷ []));
-    cell = λ j c r at_column at. elim (get-snoc columns column c j at_column) [
-      | inl early ↦
-          let below = slice_get_within columns j c early in
-          let there = sym (get-before middle (root ∷ []) (length old + j) (omega (arith, is.many, below))) ∙ at in
-          IsCell-kept pairs more row c shelf after r keeps numbers extends (is.cell j c r early there)
-      | inr last ↦
-          let place : length old + j ≡ length middle = omega (arith, is.many, last.0) in
-          let found : slice_get (middle ++ root ∷ []) (length old + j) ≡ Some root = ap (slice_get (middle ++ root ∷ [])) place ∙ get-last middle root in
-          let same : root ≡ r = same_root root r (sym found ∙ at) in
-          subst (λ (x : NodeRef). IsCell AB s more row c after x) same
-          (subst (λ (x : ℕ × ℕ). IsCell AB s more row x after root) (sym last.1) cell)
-    ];
-  }
-
-  pub AreCells-none : (columns pairs : List (ℕ × ℕ)) (shelf : Contents) (roots : List NodeRef) → AreCells AB s [] columns pairs shelf roots roots
-  AreCells-none columns pairs shelf roots = record {
-    grown = record { longer = omega arith; kept = λ place within. refl };
-    many = omega arith;
-    cell = λ i j row column root at_row at_column at. absurd (let f : ◌≡◌ {A = Option (ℕ × ℕ)} None (Some row) = at_row in cc);
-  }
-
-  -- a row more
-  module _ (rows columns : List (ℕ × ℕ)) (row : ℕ × ℕ) (pairs more : List (ℕ × ℕ)) (shelf after : Contents)
-      (old middle new : List NodeRef) (keeps : Keeps shelf after) (numbers : AreNumbers more) (extends : Extends pairs more)
-      (are : AreCells AB s rows columns pairs shelf old middle) (is : IsRow AB s row columns more after middle new) where
-    rows-length : length (rows ++ row ∷ []) * length columns ≡ length rows * length columns + length columns
-    rows-length = ap (λ (n : ℕ). n * length columns) (length-append rows (row ∷ []) ∙ one_more (length rows)) ∙ suc-mul (length rows) (length columns)
-      where
-        one_more : (n : ℕ) → n + 1 ≡ suc n
-        one_more n = omega arith
-
-    inside : (i j : ℕ) → i < length rows → j < length columns → i * length columns + j < length rows * length columns
-    inside i j below within =
-        let most = mul-le-mul_right (length columns) below in
-        let step = suc-mul i (length columns) in
-        omega arith
-
-    pub AreCells-more : AreCells AB s (rows ++ row ∷ []) columns more after old new
-    AreCells-more = record {
-      grown = record {
-        longer = omega (arith, are.grown.longer, is.grown.longer);
-        kept = λ place within. is.grown.kept place (omega (arith, are.grown.longer)) ∙ are.grown.kept place within;
-      };
-      many = omega (arith, are.many, is.many, rows-length);
-      cell = λ i j x c root at_row at_column at. elim (get-snoc rows row x i at_row) [
-        | inl early ↦
-            let below = slice_get_within rows i x early in
-            let within = slice_get_within columns j c at_column in
-            let place = inside i j below within in
-            let there = sym (is.grown.kept (length old + (i * length columns + j)) (omega (arith, are.many, place))) ∙ at in
-            IsCell-kept pairs more x c shelf after root keeps numbers extends (are.cell i j x c root early at_column there)
-        | inr last ↦
-            let place : length old + (i * length columns + j) ≡ length middle + j =
-            ap (λ (n : ℕ). length old + (n * length columns + j)) last.0 ∙ (let e = are.many in omega arith) in
-            subst (λ (y : ℕ × ℕ). IsCell AB s more y c after root) (sym last.1)
-            (is.cell j c root at_column (ap (slice_get new) (sym place) ∙ at))
-      ];
-    }

@@ -4,6 +4,7 @@ pub mod KeyedLemmas
 pub mod ComplementLemmas
 pub mod FillingLemmas
 pub mod JoinsLemmas
+pub mod RowsLemmas
 pub mod LimitLemmas
 pub mod CellsLemmas
 pub mod FinalLemmas
@@ -16,3 +17,5 @@ pub mod PartLemmas
 pub mod SameLemmas
 pub mod ProductLemmas
 pub mod GrowingLemmas
+pub mod GrownLemmas
+pub mod AssembledLemmas

@@ -1,10 +1,7 @@
 -- A row or a cell more.
-use Rattle.std.proofs.Common.{◌≡◌, ℕ, List, [], ◌∷◌, ◌++◌, Contains, refl, subst}
-use Rattle.std.specs.List.{All}
+use Rattle.std.proofs.Common.{◌≡◌, ℕ, List, [], ◌∷◌, Contains, refl, subst}
 use Rattle.std.proofs.lemmas.List.Elements.{All-contains}
-use Rattle.bdd_nodes.specs.declared.node_ref.NodeRef.{NodeRef}
-use Rattle.bdd_nodes.specs.Shelf.{Contents, IsShelf, IsValid}
-use Rattle.bdd_nodes.specs.Changes.{Keeps}
+use Rattle.bdd_nodes.specs.Shelf.{Contents, IsShelf}
 use Rattle.bdd_walk.specs.Answers.{Completes}
 use Rattle.gta_theory.specs.Automata.{Automaton}
 use Rattle.gta_theory.specs.Constructions.{pairs}
@@ -12,7 +9,7 @@ use Rattle.gta_core.specs.Auto.{AutoView, automaton_of}
 use Rattle.gta_product.specs.Numbers.{numbered, AreNumbers}
 use Rattle.gta_product.specs.Filling.{ExceedsCells, Joins}
 use Rattle.gta_product.proofs.ShelfLemmas.{both-kept}
-use Rattle.gta_product.proofs.JoinsLemmas.{Joins-wider, ExceedsCells-wider, Joins-trans, ExceedsCells-after, All-append, All-alone, All-weaker}
+use Rattle.gta_product.proofs.JoinsLemmas.{Joins-wider, ExceedsCells-wider, Joins-trans, ExceedsCells-after, All-alone}
 
 pub alone-is : (y x : ℕ × ℕ) → Contains (y ∷ []) x → y ≡ x
 alone-is y x there = All-contains (λ (z : ℕ × ℕ). y ≡ z) (y ∷ []) x (All-alone (λ (z : ℕ × ℕ). y ≡ z) y refl) there
@@ -39,12 +36,6 @@ module _ (a b : AutoView) (s : ℕ) (rows columns fewer_rows fewer_columns : Lis
         step.extends completes joins
         (ExceedsCells-wider (pairs (automaton_of start a) (automaton_of start b)) s fewer_rows fewer_columns rows columns in_rows in_columns now given
         (subst (λ (AB : Automaton (ℕ × ℕ)). ExceedsCells AB s fewer_rows fewer_columns now given) same-both exceeds))
-
-pub valid-more : (old new : Contents) (roots : List NodeRef) (root : NodeRef) → Keeps old new → All (IsValid old) roots → IsValid new root →
-    All (IsValid new) (roots ++ root ∷ [])
-valid-more old new roots root keeps valid made =
-    All-append (IsValid new) roots (root ∷ []) (All-weaker (IsValid old) (IsValid new) (λ r is. keeps.valid r is) roots valid) (All-alone (IsValid
-    new) root made)
 
 -- what is in a list of one
 pub in-alone : (xs : List (ℕ × ℕ)) (y : ℕ × ℕ) → Contains xs y → (x : ℕ × ℕ) → Contains (y ∷ []) x → Contains xs x

@@ -1,10 +1,13 @@
 -- Numbers for pairs.
-use Rattle.std.proofs.Common.{◌≡◌, ℕ, zero, suc, ◌<◌, ◌^◌, Bool, true, false, ◌||◌, if◌then◌else◌, List, [], ◌∷◌, ◌++◌, length, length-append}
+use Rattle.std.proofs.Common.{◌≡◌, ℕ, zero, suc, ◌<◌, ◌≤◌, ◌^◌, Bool, true, false, ◌||◌, if◌then◌else◌, List, [], ◌∷◌, ◌++◌, length, length-append}
 use Rattle.std.proofs.Common.{Option, Some, None, option_map, slice_get, slice_index, nat_eq, sym, ◌∙◌, ap, refl, subst, inl, inr, arith, ◌⊎◌}
 use Rattle.std.specs.List.{list_any}
-use Rattle.std.proofs.lemmas.Bool.{cases_Bool, eqb-true, eq-eqb, false≢true}
+use Rattle.std.proofs.lemmas.Bool.{cases_Bool, cases_lt, eqb-true, eq-eqb, false≢true}
+use Rattle.std.proofs.lemmas.Option.{slice_get_within, slice_get_past}
 use Rattle.bdd_walk.specs.Laws.{and-left, and-right, and-both}
 use Rattle.bdd_walk.specs.Answers.{KeepsAnswers, AnswersOnly, Completes}
+use Rattle.gta_core.proofs.AutoLemmas.{past-none}
+use Rattle.gta_core.proofs.CellsLemmas.{get-index}
 use Rattle.gta_product.specs.Numbers.{is_pair, number_in, numbered, AreNumbers, Extends, Grows, stays, comes, MayNumber}
 
 pub is_pair-true : (a b : ℕ × ℕ) → is_pair a b ≡ true → a ≡ b
@@ -103,6 +106,16 @@ pub get-last : {X : Type 0} (xs : List X) (x : X) → slice_get (xs ++ x ∷ [])
 get-last [] x = refl
 get-last (y ∷ ys) x = get-last ys x
 
+-- lists with the same elements are the same
+pub ext : {X : Type 0} (xs ys : List X) → ((i : ℕ) → slice_get xs i ≡ slice_get ys i) → xs ≡ ys
+ext [] [] same = refl
+ext [] (y ∷ ys) same = let e = same 0 in absurd cc
+ext (x ∷ xs) [] same = let e = same 0 in absurd cc
+ext {X} (x ∷ xs) (y ∷ ys) same =
+    let e : ◌≡◌ {A = Option X} (Some x) (Some y) = same 0 in
+    let first : x ≡ y = cc in
+    ap (λ (z : X). z ∷ xs) first ∙ ap (λ (zs : List X). y ∷ zs) (ext xs ys (λ i. same (suc i)))
+
 pub AreNumbers-none : AreNumbers []
 AreNumbers-none = record {
   found = λ k pair e. absurd (let f : ◌≡◌ {A = Option (ℕ × ℕ)} None (Some pair) = e in cc);
@@ -172,6 +185,35 @@ Extends-refl pairs = record { kept = λ k pair there. there }
 
 pub Extends-trans : (old middle new : List (ℕ × ℕ)) → Extends old middle → Extends middle new → Extends old new
 Extends-trans old middle new first second = record { kept = λ k pair there. second.kept k pair (first.kept k pair there) }
+
+pub Extends-append : (old more : List (ℕ × ℕ)) → Extends old (old ++ more)
+Extends-append old more = record { kept = λ k pair there. get-kept old more pair k there }
+
+-- a list that has the next pair too
+pub Extends-next : (old list : List (ℕ × ℕ)) (pair : ℕ × ℕ) → Extends old list → slice_get list (length old) ≡ Some pair → Extends (old ++ pair ∷ []) list
+Extends-next old list pair extends at = record {
+  kept = λ k q there. elim (get-snoc old pair q k there) [
+    | inl before ↦ extends.kept k q before
+    | inr last ↦ ap (slice_get list) last.0 ∙ at ∙ ap (λ (p : ℕ × ℕ). let o : Option (ℕ × ℕ) = Some p in o) (sym last.1)
+  ];
+}
+
+-- a list that keeps its places is no shorter
+pub extends-longer : (old new : List (ℕ × ℕ)) → Extends old new → length old ≤ length new
+extends-longer old new extends = elim (cases_lt (length new) (length old)) [
+  | inl shorter ↦
+      let one = get-index old (length new) shorter in
+      absurd (omega (arith, slice_get_within new (length new) one.0 (extends.kept (length new) one.0 one.1)))
+  | inr longer ↦ longer
+]
+
+-- lists of which one extends the other, and no longer one, are the same
+pub extends-same : (old new : List (ℕ × ℕ)) → Extends old new → length new ≤ length old → old ≡ new
+extends-same old new extends most = ext old new (λ k. pick k (slice_get old k) refl)
+  where
+    pick : (k : ℕ) (o : Option (ℕ × ℕ)) → slice_get old k ≡ o → slice_get old k ≡ slice_get new k
+    pick k None none = none ∙ sym (slice_get_past new k (omega (arith, most, past-none old k none)))
+    pick k (Some pair) there = there ∙ sym (extends.kept k pair there)
 
 pub number_in-extends : (old new : List (ℕ × ℕ)) → AreNumbers new → Extends old new → (pair : ℕ × ℕ) (n : ℕ) →
     number_in old pair ≡ Some n → number_in new pair ≡ Some n

@@ -1,11 +1,9 @@
 -- The part of a space, and joiners that go on fitting.
-use Rattle.std.proofs.Common.{◌≡◌, ◌≢◌, ℕ, zero, suc, ◌+◌, ◌*◌, ◌<◌, List, [], ◌∷◌, length, Option, Some, None, Contains, get_or, slice_get}
+use Rattle.std.proofs.Common.{◌≡◌, ◌≢◌, ℕ, zero, suc, ◌<◌, List, [], ◌∷◌, length, Option, Some, None, get_or, slice_get}
 use Rattle.std.proofs.Common.{refl, sym, ◌∙◌, ap, subst, inl, inr, arith}
 use Rattle.std.specs.Prelude.{slice_set, IsSome}
-use Rattle.std.specs.List.{range_with_len}
 use Rattle.std.proofs.lemmas.Bool.Decides.{eqb_tells}
 use Rattle.std.proofs.lemmas.Option.{slice_get_within, slice_get-get_or}
-use Rattle.bdd_nodes.specs.declared.node_ref.NodeRef.{NodeRef}
 use Rattle.bdd_nodes.specs.Shelf.{Contents}
 use Rattle.bdd_nodes.specs.Changes.{Keeps}
 use Rattle.bdd_walk.specs.declared.joiner.Joiner.{Joiner}
@@ -17,12 +15,9 @@ use Rattle.gta_theory.specs.Constructions.{pairs}
 use Rattle.gta_theory.specs.Generated.{Generated}
 use Rattle.gta_core.specs.declared.part.Part.{Part}
 use Rattle.gta_core.specs.Auto.{AutoView, guide_of, root_at, automaton_of, IsAuto}
-use Rattle.gta_product.specs.declared.classes.Classes.{Classes}
 use Rattle.gta_product.specs.Numbers.{numbered}
-use Rattle.gta_product.specs.Classes.{AreClasses}
-use Rattle.gta_product.specs.Filling.{AreCells}
-use Rattle.gta_product.specs.Building.{AreSpaces, IsBuilt, FitAll}
-use Rattle.gta_product.proofs.ShelfLemmas.{Contains-get, row-within, column-within, AreBelow, generated-below}
+use Rattle.gta_product.specs.Building.{AreSpaces, FitAll}
+use Rattle.gta_product.proofs.ShelfLemmas.{row-within, column-within, AreBelow, generated-below}
 use Rattle.gta_product.proofs.BuildingLemmas.{SetsSpace}
 
 pub get-set : {X : Type 0} (xs : List X) (i : ℕ) (x : X) → i < length xs → slice_get (slice_set xs i x) i ≡ Some x
@@ -104,15 +99,6 @@ module _ (g : Spaces) (guide : IsGuide g) (shelf : Contents) (a b : AutoView) (a
           column-within g guide shelf b auto_b s inside part_b in_b p.1 below.second,
         )
 
-  module _ (lefts rights : List (ℕ × ℕ)) (at_left : slice_get spaces (left g s) ≡ Some lefts) (at_right : slice_get spaces (right g s) ≡ Some rights) where
-    pub first-known : (j k : ℕ) (p q : ℕ × ℕ) → slice_get lefts j ≡ Some p → slice_get rights k ≡ Some q → IsSome (root_at shelf a s p.0 q.0)
-    first-known j k p q at_p at_q =
-        (auto_a.complete s p.0 q.0).1 (inside, ((below-at (left g s) lefts at_left j p at_p).first, (below-at (right g s) rights at_right k q at_q).first))
-
-    pub second-known : (j k : ℕ) (p q : ℕ × ℕ) → slice_get lefts j ≡ Some p → slice_get rights k ≡ Some q → IsSome (root_at shelf b s p.1 q.1)
-    second-known j k p q at_p at_q =
-        (auto_b.complete s p.1 q.1).1 (inside, ((below-at (left g s) lefts at_left j p at_p).second, (below-at (right g s) rights at_right k q at_q).second))
-
 -- generated pairs of the children have roots in both
 module _ (g : Spaces) (shelf : Contents) (a b : AutoView) (auto_a : IsAuto g shelf a) (auto_b : IsAuto g shelf b) (s : ℕ) (inside : IsSpace g s)
     (p q : ℕ × ℕ) (at_left : Generated g (pairs (automaton_of shelf a) (automaton_of shelf b)) (left g s) p)
@@ -128,40 +114,6 @@ module _ (g : Spaces) (shelf : Contents) (a b : AutoView) (auto_a : IsAuto g she
 
   pub generated-second : IsSome (root_at shelf b s p.1 q.1)
   generated-second = (auto_b.complete s p.1 q.1).1 (inside, (below_left.second, below_right.second))
-
--- each class has a pair of the list
-pub ones-inside : (pairs : List (ℕ × ℕ)) (first second : List ℕ) (classes : Classes) → AreClasses pairs first second classes →
-    (x : ℕ × ℕ) → Contains classes.ones x → (k : ℕ) × (slice_get pairs k ≡ Some x)
-ones-inside pairs first second classes are x there =
-    let at = Contains-get classes.ones x there in
-    let class = are.used at.0 (slice_get_within classes.ones at.0 x at.1) in
-    (class.at, sym class.stands ∙ at.1)
-
--- what has been filled is a part
-pub IsBuilt-made : (g : Spaces) (AB : Automaton (ℕ × ℕ)) (s : ℕ) (lefts rights numbers : List (ℕ × ℕ)) (first second : Part) (shelf : Contents)
-    (old new : List NodeRef) (rows columns : Classes) (part : Part) → slice_get g s ≡ Some part.children → part.states ≡ length numbers →
-    part.initial ≡ 0 → part.first ≡ length old → part.rows ≡ rows.of → part.columns ≡ columns.of → part.width ≡ length columns.ones →
-    part.cells ≡ range_with_len 0 (length rows.ones * length columns.ones) → AreClasses lefts first.rows second.rows rows →
-    AreClasses rights first.columns second.columns columns → AreCells AB s rows.ones columns.ones numbers shelf old new →
-    IsBuilt g AB s lefts rights numbers first second shelf new part
-IsBuilt-made g AB s lefts rights numbers first second shelf old new rows columns part children states initial start is_rows is_columns width cells
-    row_classes column_classes filled =
-    record {
-      children = children;
-      states = states;
-      initial = initial;
-      rows = rows.ones;
-      columns = columns.ones;
-      row_classes = subst (λ (of : List ℕ). AreClasses lefts first.rows second.rows (record { of = of; ones = rows.ones })) (sym is_rows)
-          (record { many = row_classes.many; each = row_classes.each; used = row_classes.used });
-      column_classes = subst (λ (of : List ℕ). AreClasses rights first.columns second.columns (record { of = of; ones = columns.ones })) (sym is_columns)
-          (record { many = column_classes.many; each = column_classes.each; used = column_classes.used });
-      width = width;
-      cells = cells;
-      within = omega (arith, filled.many, start);
-      cell = λ i j row column root at_row at_column there. filled.cell i j row column root at_row at_column
-          (ap (λ (n : ℕ). slice_get new (n + (i * length columns.ones + j))) (sym start) ∙ there);
-    }
 
 pub get-at : {X : Type 0} (xs : List X) (i : ℕ) (x : X) → i < length xs → x ≡ get_or xs i x → slice_get xs i ≡ Some x
 get-at {X} xs i x within is = slice_get-get_or xs i x within ∙ ap (λ (y : X). let o : Option X = Some y in o) (sym is)

@@ -14,9 +14,13 @@ use Rattle.gta_theory.specs.Automata.{Automaton, IsStable, Has}
 use Rattle.gta_theory.specs.Constructions.{pairs, IsProduct}
 use Rattle.gta_theory.specs.Sizes.{SizeOf}
 use Rattle.gta_core.specs.Changes.{RegistersTable}
+use Rattle.gta_core.specs.Auto.{AutoView, automaton_of, IsAuto}
+use Rattle.gta_product.specs.declared.growing.Growth.{Growth}
 use Rattle.gta_product.specs.Numbers.{numbered}
-use Rattle.gta_product.specs.Building.{AreSpaces, CompleteAll, ExceedsSteps, HasManyCells, Building, Leaves}
+use Rattle.gta_product.specs.Building.{AreSpaces, CompleteAll, ExceedsSteps, HasManyCells, Building, Leaves, Exceeded}
+use Rattle.gta_product.specs.Growing.{HaveAll, AreGrown, AreDone, Goes, LacksRoom}
 use Rattle.gta_product.proofs.LimitLemmas.{limit-below, cells-below}
+use Rattle.gta_product.proofs.PartLemmas.{parts-length}
 
 pub Building-start : (g : Spaces) (AB : Automaton (ℕ × ℕ)) (shelf : Contents) (spaces : List (List (ℕ × ℕ))) → IsShelf shelf → AreSpaces g AB spaces →
     Building g AB shelf shelf spaces
@@ -57,13 +61,34 @@ RegistersTable-after first now new table roots tables adds = record {
   others = λ other apart. adds.others other apart ∙ ap (λ (r : Registered). roots_under r.tables other) tables;
 }
 
-pub Leaves-building : (g : Spaces) (AB : Automaton (ℕ × ℕ)) (first now : Contents) (spaces : List (List (ℕ × ℕ))) → Building g AB first now spaces
-    → Leaves first now
-Leaves-building g AB first now spaces building = record {
-  keeps = building.keeps;
-  same_limit = building.same_limit;
-  tables = building.tables;
-  shelf = building.shelf;
+-- there was less room than the product that was built from the start has missing functions
+pub Exceeded-start : (g : Spaces) (AB : Automaton (ℕ × ℕ)) (shelf : Contents) (spaces after : List (List (ℕ × ℕ))) → IsShelf shelf → AreSpaces g AB spaces →
+    LacksRoom g AB shelf spaces after → Exceeded g AB shelf
+Exceeded-start g AB shelf spaces after is_shelf are lacks = record {
+  spaces = after;
+  exceeds = λ given completes. lacks shelf (Building-start g AB shelf spaces is_shelf are) given completes;
+}
+
+-- when no more come
+pub AreDone-goes : (g : Spaces) (first : Contents) (a b : AutoView) → IsAuto g first a → IsAuto g first b → (spaces : List (List (ℕ × ℕ))) (now : Contents)
+    (growths : List Growth) → AreSpaces g (pairs (automaton_of first a) (automaton_of first b)) spaces →
+    AreGrown g (pairs (automaton_of first a) (automaton_of first b)) a b spaces now growths → HaveAll g spaces growths →
+    AreDone g (pairs (automaton_of first a) (automaton_of first b)) a b spaces now growths
+AreDone-goes g first a b auto_a auto_b spaces now growths are grown all = record {
+  grown = grown;
+  all = all;
+  many = are.many;
+  first = parts-length g first a auto_a;
+  second = parts-length g first b auto_b;
+}
+
+pub Leaves-goes : (g : Spaces) (AB : Automaton (ℕ × ℕ)) (first now : Contents) (before after : List (List (ℕ × ℕ))) → Goes g AB first now before after →
+    Leaves first now
+Leaves-goes g AB first now before after goes = record {
+  keeps = goes.keeps;
+  same_limit = goes.same_limit;
+  tables = goes.tables;
+  shelf = goes.shelf;
 }
 
 pub Leaves-none : (shelf : Contents) → IsShelf shelf → Leaves shelf shelf

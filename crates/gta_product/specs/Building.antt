@@ -3,7 +3,7 @@ use Rattle.std.specs.Prelude.{◌≡◌, ◌≢◌, ℕ, ◌<◌, ◌≤◌, ◌
 use Rattle.std.specs.List.{range_with_len}
 use Rattle.labels.specs.Labels.{Label, Function}
 use Rattle.bdd_nodes.specs.declared.node_ref.NodeRef.{NodeRef}
-use Rattle.bdd_nodes.specs.Shelf.{Contents, IsShelf, limit_of}
+use Rattle.bdd_nodes.specs.Shelf.{Contents, IsShelf, IsValid, limit_of}
 use Rattle.bdd_nodes.specs.Changes.{Keeps, SameTables}
 use Rattle.bdd_walk.specs.declared.joiner.Joiner.{Joiner}
 use Rattle.bdd_walk.specs.Answers.{Completes}
@@ -90,25 +90,25 @@ module _ (g : Spaces) (AB : Automaton (ℕ × ℕ)) where
     pub initial : part.initial ≡ 0
     pub rows : List (ℕ × ℕ)
     pub columns : List (ℕ × ℕ)
-    pub row_classes : AreClasses lefts first.rows second.rows (record { of = part.rows; ones = rows })
-    pub column_classes : AreClasses rights first.columns second.columns (record { of = part.columns; ones = columns })
+    pub row_classes : AreClasses lefts first.rows second.rows part.rows rows
+    pub column_classes : AreClasses rights first.columns second.columns part.columns columns
     pub width : part.width ≡ length columns
     pub cells : part.cells ≡ range_with_len 0 (length rows * length columns)
     pub within : part.first + length rows * length columns ≤ length roots
     pub cell : (i j : ℕ) (row column : ℕ × ℕ) (root : NodeRef) → slice_get rows i ≡ Some row → slice_get columns j ≡ Some column →
         slice_get roots (part.first + (i * length columns + j)) ≡ Some root → IsCell AB s pairs row column shelf root
 
-  module _ (a b : AutoView) (before after : List (List (ℕ × ℕ))) (shelf : Contents) (roots : List NodeRef) where
-    -- the part is that of a space, for the pairs that its children had before and that it has after
+  module _ (a b : AutoView) (spaces : List (List (ℕ × ℕ))) (shelf : Contents) (roots : List NodeRef) where
+    -- the part is that of a space, for the pairs that it and its children have
     pub record IsPartOf (s : ℕ) (part : Part) : Type 0 where
       pub lefts : List (ℕ × ℕ)
       pub rights : List (ℕ × ℕ)
       pub pairs : List (ℕ × ℕ)
       pub first : Part
       pub second : Part
-      pub at_left : slice_get before (left g s) ≡ Some lefts
-      pub at_right : slice_get before (right g s) ≡ Some rights
-      pub at : slice_get after s ≡ Some pairs
+      pub at_left : slice_get spaces (left g s) ≡ Some lefts
+      pub at_right : slice_get spaces (right g s) ≡ Some rights
+      pub at : slice_get spaces s ≡ Some pairs
       pub in_first : slice_get a.parts s ≡ Some first
       pub in_second : slice_get b.parts s ≡ Some second
       pub built : IsBuilt s lefts rights pairs first second shelf roots part
@@ -123,6 +123,7 @@ module _ (g : Spaces) (AB : Automaton (ℕ × ℕ)) where
 
     -- the parts of the first spaces, which have all roots
     pub record AreParts (parts : List Part) : Type 0 where
+      pub valid : All (IsValid shelf) roots
       pub each : (s : ℕ) (part : Part) → slice_get parts s ≡ Some part → IsPartOf s part
       pub used : (place : ℕ) → place < length roots → IsPlaceOf parts place
 

@@ -1,5 +1,5 @@
 -- What joins for the pairs of classes of a space have done: their roots, the numbers of new pairs, and the nodes.
-use Rattle.std.specs.Prelude.{◌≡◌, ℕ, ◌+◌, ◌*◌, List, [], ◌∷◌, length, Some, All, Contains, ◌⊎◌, slice_get}
+use Rattle.std.specs.Prelude.{◌≡◌, ℕ, ◌≤◌, List, [], ◌∷◌, ◌++◌, length, Some, All, Contains, ◌⊎◌, slice_get}
 use Rattle.labels.specs.Labels.{Label, Function}
 use Rattle.bdd_nodes.specs.declared.node_ref.NodeRef.{NodeRef}
 use Rattle.bdd_nodes.specs.Shelf.{Contents, IsShelf, IsValid, state_of, limit_of}
@@ -7,7 +7,6 @@ use Rattle.bdd_nodes.specs.Changes.{Keeps, SameTables}
 use Rattle.bdd_walk.specs.Answers.{Completes}
 use Rattle.bdd_walk.specs.Under.{AddsAmong, ExceedsAmong}
 use Rattle.gta_theory.specs.Automata.{Automaton}
-use Rattle.gta_core.specs.Placing.{Grows}
 use Rattle.gta_product.specs.Numbers.{number_in, numbered, Extends}
 
 -- the step of the pair automaton of a space from a row to a column, as the rule is asked it
@@ -60,18 +59,22 @@ module _ (AB : Automaton (ℕ × ℕ)) (s : ℕ) (rows columns : List (ℕ × �
     pub only : (k : ℕ) (pair : ℕ × ℕ) → slice_get after k ≡ Some pair → (slice_get before k ≡ Some pair) ⊎ IsMade AB s rows columns pair
     pub counted : (given : List ℕ → ℕ) → Completes (numbered after) given → AddsCells old new given
 
--- behind the roots that were there stand those of a row, one for each column
+-- the roots are those of a row, one for each of the first columns
 pub record IsRow (AB : Automaton (ℕ × ℕ)) (s : ℕ) (row : ℕ × ℕ) (columns : List (ℕ × ℕ)) (pairs : List (ℕ × ℕ))
-    (shelf : Contents) (old new : List NodeRef) : Type 0 where
-  pub grown : Grows old new
-  pub many : length new ≡ length old + length columns
-  pub cell : (j : ℕ) (column : ℕ × ℕ) (root : NodeRef) → slice_get columns j ≡ Some column →
-      slice_get new (length old + j) ≡ Some root → IsCell AB s pairs row column shelf root
+    (shelf : Contents) (roots : List NodeRef) : Type 0 where
+  pub few : length roots ≤ length columns
+  pub cell : (j : ℕ) (column : ℕ × ℕ) (root : NodeRef) → slice_get columns j ≡ Some column → slice_get roots j ≡ Some root →
+      IsCell AB s pairs row column shelf root
 
--- behind the roots that were there stand those of all rows, row after row
-pub record AreCells (AB : Automaton (ℕ × ℕ)) (s : ℕ) (rows columns : List (ℕ × ℕ)) (pairs : List (ℕ × ℕ))
-    (shelf : Contents) (old new : List NodeRef) : Type 0 where
-  pub grown : Grows old new
-  pub many : length new ≡ length old + length rows * length columns
-  pub cell : (i j : ℕ) (row column : ℕ × ℕ) (root : NodeRef) → slice_get rows i ≡ Some row → slice_get columns j ≡ Some column →
-      slice_get new (length old + (i * length columns + j)) ≡ Some root → IsCell AB s pairs row column shelf root
+-- each row has its roots, and from one row on they are roots for all columns
+pub record AreRows (AB : Automaton (ℕ × ℕ)) (s : ℕ) (rows columns : List (ℕ × ℕ)) (from : ℕ) (pairs : List (ℕ × ℕ))
+    (shelf : Contents) (cells : List (List NodeRef)) : Type 0 where
+  pub many : length cells ≡ length rows
+  pub each : (i : ℕ) (row : ℕ × ℕ) (roots : List NodeRef) → slice_get rows i ≡ Some row → slice_get cells i ≡ Some roots →
+      IsRow AB s row columns pairs shelf roots
+  pub full : (i : ℕ) (roots : List NodeRef) → slice_get cells i ≡ Some roots → from ≤ i → length roots ≡ length columns
+
+-- the roots of all rows, row after row
+abbrev pub row_by_row : List (List NodeRef) → List NodeRef
+row_by_row [] = []
+row_by_row (row ∷ rows) = row ++ row_by_row rows

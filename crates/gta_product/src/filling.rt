@@ -1,14 +1,13 @@
-//! The roots of a space: each row is joined with each column.
+//! The roots of a space: each row is joined with each column that it lacks.
 
-ghost use Rattle.std.specs.Prelude.{◌≡◌, ℕ, List, [], ◌∷◌, None, Err, IsSome, IfOk, OnOk, Contains, All};
+ghost use Rattle.std.specs.Prelude.{◌≡◌, ℕ, List, [], ◌∷◌, length, None, Err, IsSome, IfOk, OnOk, Contains};
 ghost use Rattle.bdd_walk.specs.Answers.{Completes};
 ghost use Rattle.bdd_walk.specs.Fits.{Fits};
-ghost use Rattle.bdd_nodes.specs.Shelf.{IsValid};
 ghost use Rattle.gta_theory.specs.Constructions.{pairs};
 ghost use Rattle.gta_core.specs.Auto.{root_at, automaton_of};
 ghost use Rattle.gta_product.specs.Numbers.{numbered, AreNumbers};
 ghost use Rattle.gta_product.specs.Tables.{AreTables};
-ghost use Rattle.gta_product.specs.Filling.{IsCell, Joins, ExceedsCells, IsRow, AreCells};
+ghost use Rattle.gta_product.specs.Filling.{IsCell, Joins, ExceedsCells, IsRow, AreRows};
 
 use crate::numbering::Numbering;
 use crate::tables::{Tables, root_in};
@@ -50,7 +49,7 @@ pub(crate) fn join_cell(
     Ok(made)
 }
 
-/// The roots of a row: it is joined with each column.
+/// The roots that a row lacks: it is joined with the columns behind those that it has roots for.
 #[allow(clippy::too_many_arguments)]
 fn fill_row(
     alloc: Global,
@@ -68,29 +67,31 @@ fn fill_row(
     requires first { (r : ℕ × ℕ) → Contains columns.now r → IsSome (root_at shelf.old a.now space row.0 r.0) }
     requires second { (r : ℕ × ℕ) → Contains columns.now r → IsSome (root_at shelf.old b.now space row.1 r.1) }
     requires tables { AreTables shelf.old a.now b.now tables.now }
-    requires valid { All (IsValid shelf.old) roots.old }
+    requires row { IsRow (pairs (automaton_of shelf.old a.now) (automaton_of shelf.old b.now)) space row columns.now
+        numbers.old shelf.old roots.old }
     requires numbers { AreNumbers numbers.old }
     requires fits { Fits joiner.old None shelf.old (numbered numbers.old) }
     ensures joins { Joins (pairs (automaton_of shelf.old a.now) (automaton_of shelf.old b.now)) space (row ∷ []) columns.now
         shelf.old shelf.new numbers.old numbers.new }
-    ensures cells { OnOk result (IsRow (pairs (automaton_of shelf.old a.now) (automaton_of shelf.old b.now)) space row columns.now
-        numbers.new shelf.new roots.old roots.new) }
-    ensures valid { OnOk result (All (IsValid shelf.new) roots.new) }
+    ensures row { OnOk result (IsRow (pairs (automaton_of shelf.old a.now) (automaton_of shelf.old b.now)) space row columns.now
+        numbers.new shelf.new roots.new) }
+    ensures full { OnOk result (length roots.new ≡ length columns.now) }
     ensures limit { result ≡ Err Stop.Limit → (given : List ℕ → ℕ) → Completes (numbered numbers.new) given →
         ExceedsCells (pairs (automaton_of shelf.old a.now) (automaton_of shelf.old b.now)) space (row ∷ []) columns.now shelf.old given }
     ensures fits { OnOk result (Fits joiner.new None shelf.new (numbered numbers.new)) }
     ensures numbers { AreNumbers numbers.new }
 {
-    for column in columns {
+    for k in roots.len()..columns.len() {
+        let column = columns[k];
         let root = join_cell(
-            alloc, a, b, tables, shelf, space, row, *column, joiner, numbers,
+            alloc, a, b, tables, shelf, space, row, column, joiner, numbers,
         )?;
         roots.push(root)?;
     }
     Ok(())
 }
 
-/// The roots of a space, row after row: each row is joined with each column.
+/// The roots that the rows of a space lack, from one row on: each is joined with each column that it has no root for.
 #[allow(clippy::too_many_arguments)]
 pub(crate) fn fill(
     alloc: Global,
@@ -101,29 +102,32 @@ pub(crate) fn fill(
     space: u32,
     rows: &[(u32, u32)],
     columns: &[(u32, u32)],
+    from: usize,
     joiner: &mut Joiner,
     numbers: &mut Numbering,
-    roots: &mut RefList,
+    cells: &mut Vec<RefList>,
 ) -> Result<(), Stop>
     requires first { (l r : ℕ × ℕ) → Contains rows.now l → Contains columns.now r → IsSome (root_at shelf.old a.now space l.0 r.0) }
     requires second { (l r : ℕ × ℕ) → Contains rows.now l → Contains columns.now r → IsSome (root_at shelf.old b.now space l.1 r.1) }
     requires tables { AreTables shelf.old a.now b.now tables.now }
-    requires valid { All (IsValid shelf.old) roots.old }
+    requires rows { AreRows (pairs (automaton_of shelf.old a.now) (automaton_of shelf.old b.now)) space rows.now columns.now
+        (length rows.now) numbers.old shelf.old cells.old.items }
     requires numbers { AreNumbers numbers.old }
     requires fits { Fits joiner.old None shelf.old (numbered numbers.old) }
     ensures joins { Joins (pairs (automaton_of shelf.old a.now) (automaton_of shelf.old b.now)) space rows.now columns.now
         shelf.old shelf.new numbers.old numbers.new }
-    ensures cells { OnOk result (AreCells (pairs (automaton_of shelf.old a.now) (automaton_of shelf.old b.now)) space rows.now columns.now
-        numbers.new shelf.new roots.old roots.new) }
-    ensures valid { OnOk result (All (IsValid shelf.new) roots.new) }
+    ensures rows { OnOk result (AreRows (pairs (automaton_of shelf.old a.now) (automaton_of shelf.old b.now)) space rows.now columns.now
+        from numbers.new shelf.new cells.new.items) }
     ensures limit { result ≡ Err Stop.Limit → (given : List ℕ → ℕ) → Completes (numbered numbers.new) given →
         ExceedsCells (pairs (automaton_of shelf.old a.now) (automaton_of shelf.old b.now)) space rows.now columns.now shelf.old given }
     ensures fits { OnOk result (Fits joiner.new None shelf.new (numbered numbers.new)) }
     ensures numbers { AreNumbers numbers.new }
 {
-    for row in rows {
+    for index in from..rows.len() {
+        let row = rows[index];
+        let roots = &mut cells[index];
         fill_row(
-            alloc, a, b, tables, shelf, space, *row, columns, joiner, numbers, roots,
+            alloc, a, b, tables, shelf, space, row, columns, joiner, numbers, roots,
         )?;
     }
     Ok(())

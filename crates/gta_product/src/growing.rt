@@ -1,15 +1,17 @@
 //! The pairs that come: a space is joined for the classes of its children's pairs that weren't joined yet.
 
-ghost use Rattle.std.specs.Prelude.{◌≡◌, ◌<◌, ◌*◌, ◌⊎◌, ℕ, List, [], length, map, Err, All, Contains, IfOk, OnOk, IsTrue, ◌↔◌};
+ghost use Rattle.std.specs.Prelude.{◌≡◌, ◌<◌, ◌≤◌, ◌*◌, ◌⊎◌, ℕ, List, [], length, map, Err, IfOk, OnOk, IsTrue, ◌↔◌, slice_get, Some};
+ghost use Rattle.bdd_nodes.specs.declared.node_ref.NodeRef.{NodeRef};
+ghost use Rattle.bdd_nodes.specs.Shelf.{Contents};
 ghost use Rattle.gta_theory.specs.Automata.{Automaton};
 ghost use Rattle.gta_theory.specs.Constructions.{pairs};
-ghost use Rattle.gta_theory.specs.Guides.{left, right};
+ghost use Rattle.gta_theory.specs.Guides.{IsGuide, left, right};
 ghost use Rattle.gta_core.specs.Auto.{AutoView, automaton_of, IsAuto};
 ghost use Rattle.gta_product.specs.Tables.{AreTables};
 ghost use Rattle.gta_product.specs.Building.{AreSpaces, FitAll};
-ghost use Rattle.gta_product.specs.Growing.{AreGenerated, IsKeyed, HasSeen, HaveSeen, Goes, LacksRoom};
+ghost use Rattle.gta_product.specs.Growing.{AreGenerated, HasRows, HasSeen, HasAll, HaveAll, IsNew, IsGrown, AreGrown, Goes, LacksRoom};
 
-use crate::classes::note;
+use crate::classes::Classes;
 use crate::filling::fill;
 use crate::numbering::Numbering;
 use crate::tables::Tables;
@@ -23,62 +25,38 @@ use ws2s_core::Guide;
 /// The most roots that the table of a space may have for each node of the shelf's limit: they stand outside the shelf.
 const CELLS_A_NODE: u64 = 16;
 
-/// The classes of a child's pairs so far.
-#[derive(Drop)]
-pub(crate) struct Seen {
-    keys: Numbering,
-    /// For each class the first pair that has it.
-    pub(crate) ones: Items<(u32, u32)>,
-    /// How many pairs were looked at.
-    looked: usize,
-}
-
-impl Seen {
-    fn new(alloc: Global) -> Seen
-        ensures ones { result.ones ≡ [] }
-        ensures keys { result.keys ≡ [] }
-    {
-        Seen {
-            keys: Numbering::new(alloc),
-            ones: Items::new(alloc),
-            looked: 0,
-        }
-    }
-
-    /// Looks at the pairs that have come, of which those of new classes join the ones.
-    fn look(&mut self, pairs: &[(u32, u32)], left: &[u32], right: &[u32]) -> Result<(), NoMemory>
-        requires { All (λ pair. (pair.0 < length left.now) × (pair.1 < length right.now)) pairs.now }
-        ensures only { OnOk result ((x : ℕ × ℕ) → Contains self.new.ones x → Contains self.old.ones x ⊎ Contains pairs.now x) }
-        ensures keyed { OnOk result (IsKeyed left.now right.now self.old → IsKeyed left.now right.now self.new) }
-    {
-        for k in self.looked..pairs.len() {
-            let pair = pairs[k];
-            let key = (left[pair.0 as usize], right[pair.1 as usize]);
-            let class = self.keys.number(key)?;
-            note(&mut self.ones, class, pair)?;
-        }
-        self.looked = pairs.len();
-        Ok(())
-    }
-}
-
-/// What a space was joined for so far: each of these rows with each of these columns.
+/// What a space was joined for so far.
 #[derive(Drop)]
 pub(crate) struct Growth {
-    pub(crate) rows: Seen,
-    pub(crate) columns: Seen,
+    /// The classes of the left child's pairs.
+    pub(crate) rows: Classes,
+    /// The classes of the right child's pairs.
+    pub(crate) columns: Classes,
+    /// For each class of rows its roots, one for each class of columns.
+    pub(crate) cells: Vec<RefList>,
+}
+
+impl Growth {
+    /// For nothing. Takes no memory.
+    fn new(alloc: Global) -> Growth
+        ensures { IsNew result }
+    {
+        Growth {
+            rows: Classes::new(alloc),
+            columns: Classes::new(alloc),
+            cells: Vec::new(alloc),
+        }
+    }
 }
 
 /// Nothing was looked at in any space.
 pub(crate) fn growths(alloc: Global, g: &Guide) -> Result<Vec<Growth>, NoMemory>
-    ensures { IfOk result (λ growths. (A B : Automaton ℕ) (a b : AutoView) → HaveSeen g.now (pairs A B) a b growths.items) }
+    ensures { IfOk result (λ growths. (AB : Automaton (ℕ × ℕ)) (a b : AutoView) (spaces : List (List (ℕ × ℕ))) (shelf : Contents) →
+        AreGrown g.now AB a b spaces shelf growths.items) }
 {
     let mut growths = Vec::new(alloc);
     for _space in 0..g.spaces() {
-        growths.push(Growth {
-            rows: Seen::new(alloc),
-            columns: Seen::new(alloc),
-        })?;
+        growths.push(Growth::new(alloc))?;
     }
     Ok(growths)
 }
@@ -100,14 +78,17 @@ pub(crate) fn grow(
     requires second { IsAuto g.now shelf.old b.now }
     requires tables { AreTables shelf.old a.now b.now tables.now }
     requires spaces { AreSpaces g.now (pairs (automaton_of shelf.old a.now) (automaton_of shelf.old b.now)) numbers.old.items }
-    requires seen { HaveSeen g.now (pairs (automaton_of shelf.old a.now) (automaton_of shelf.old b.now)) a.now b.now growths.old.items }
+    requires grown { AreGrown g.now (pairs (automaton_of shelf.old a.now) (automaton_of shelf.old b.now)) a.now b.now
+        numbers.old.items shelf.old growths.old.items }
     requires fits { FitAll shelf.old joiners.old.items numbers.old.items }
     ensures goes { Goes g.now (pairs (automaton_of shelf.old a.now) (automaton_of shelf.old b.now))
         shelf.old shelf.new numbers.old.items numbers.new.items }
     ensures limit { result ≡ Err Stop.Limit → LacksRoom g.now (pairs (automaton_of shelf.old a.now) (automaton_of shelf.old b.now))
         shelf.old numbers.old.items numbers.new.items }
     ensures spaces { OnOk result (AreSpaces g.now (pairs (automaton_of shelf.old a.now) (automaton_of shelf.old b.now)) numbers.new.items) }
-    ensures seen { OnOk result (HaveSeen g.now (pairs (automaton_of shelf.old a.now) (automaton_of shelf.old b.now)) a.now b.now growths.new.items) }
+    ensures grown { OnOk result (AreGrown g.now (pairs (automaton_of shelf.old a.now) (automaton_of shelf.old b.now)) a.now b.now
+        numbers.new.items shelf.new growths.new.items) }
+    ensures all { OnOk result (HaveAll g.now numbers.new.items growths.new.items) }
     ensures fits { OnOk result (FitAll shelf.new joiners.new.items numbers.new.items) }
 {
     loop {
@@ -137,14 +118,17 @@ fn grow_once(
     requires second { IsAuto g.now shelf.old b.now }
     requires tables { AreTables shelf.old a.now b.now tables.now }
     requires spaces { AreSpaces g.now (pairs (automaton_of shelf.old a.now) (automaton_of shelf.old b.now)) numbers.old.items }
-    requires seen { HaveSeen g.now (pairs (automaton_of shelf.old a.now) (automaton_of shelf.old b.now)) a.now b.now growths.old.items }
+    requires grown { AreGrown g.now (pairs (automaton_of shelf.old a.now) (automaton_of shelf.old b.now)) a.now b.now
+        numbers.old.items shelf.old growths.old.items }
     requires fits { FitAll shelf.old joiners.old.items numbers.old.items }
     ensures goes { Goes g.now (pairs (automaton_of shelf.old a.now) (automaton_of shelf.old b.now))
         shelf.old shelf.new numbers.old.items numbers.new.items }
     ensures limit { result ≡ Err Stop.Limit → LacksRoom g.now (pairs (automaton_of shelf.old a.now) (automaton_of shelf.old b.now))
         shelf.old numbers.old.items numbers.new.items }
     ensures spaces { OnOk result (AreSpaces g.now (pairs (automaton_of shelf.old a.now) (automaton_of shelf.old b.now)) numbers.new.items) }
-    ensures seen { OnOk result (HaveSeen g.now (pairs (automaton_of shelf.old a.now) (automaton_of shelf.old b.now)) a.now b.now growths.new.items) }
+    ensures grown { OnOk result (AreGrown g.now (pairs (automaton_of shelf.old a.now) (automaton_of shelf.old b.now)) a.now b.now
+        numbers.new.items shelf.new growths.new.items) }
+    ensures all { OnOk result (HaveAll g.now numbers.old.items growths.new.items) }
     ensures fits { OnOk result (FitAll shelf.new joiners.new.items numbers.new.items) }
 {
     for space in 0..g.spaces() {
@@ -156,7 +140,7 @@ fn grow_once(
     Ok(())
 }
 
-/// Joins a space for what has come in its children: the new rows with all columns, and the earlier rows with the new ones.
+/// Joins a space for what has come in its children: the new rows with all columns, and then the earlier rows with the new ones.
 /// Stops before that where the space's table would have too many roots.
 #[allow(clippy::too_many_arguments)]
 fn grow_space(
@@ -176,18 +160,21 @@ fn grow_space(
     requires tables { AreTables shelf.old a.now b.now tables.now }
     requires spaces { AreSpaces g.now (pairs (automaton_of shelf.old a.now) (automaton_of shelf.old b.now)) numbers.old.items }
     requires inside { space < length g.now }
-    requires seen { HasSeen g.now (pairs (automaton_of shelf.old a.now) (automaton_of shelf.old b.now)) a.now b.now space growth.old }
+    requires grown { IsGrown g.now (pairs (automaton_of shelf.old a.now) (automaton_of shelf.old b.now)) a.now b.now
+        numbers.old.items shelf.old space growth.old }
     requires fits { FitAll shelf.old joiners.old.items numbers.old.items }
     ensures goes { Goes g.now (pairs (automaton_of shelf.old a.now) (automaton_of shelf.old b.now))
         shelf.old shelf.new numbers.old.items numbers.new.items }
     ensures limit { result ≡ Err Stop.Limit → LacksRoom g.now (pairs (automaton_of shelf.old a.now) (automaton_of shelf.old b.now))
         shelf.old numbers.old.items numbers.new.items }
     ensures spaces { OnOk result (AreSpaces g.now (pairs (automaton_of shelf.old a.now) (automaton_of shelf.old b.now)) numbers.new.items) }
-    ensures seen { OnOk result (HasSeen g.now (pairs (automaton_of shelf.old a.now) (automaton_of shelf.old b.now)) a.now b.now space growth.new) }
+    ensures grown { OnOk result (IsGrown g.now (pairs (automaton_of shelf.old a.now) (automaton_of shelf.old b.now)) a.now b.now
+        numbers.new.items shelf.new space growth.new) }
+    ensures all { OnOk result (HasAll g.now numbers.old.items space growth.new.rows growth.new.columns) }
     ensures fits { OnOk result (FitAll shelf.new joiners.new.items numbers.new.items) }
 {
-    let (rows, columns) = (growth.rows.ones.len(), growth.columns.ones.len());
-    look_at(g, a, b, shelf, space, numbers, growth)?;
+    let earlier = growth.rows.ones.len();
+    look_at(alloc, g, a, b, shelf, space, numbers, growth)?;
     if exceeds(
         growth.rows.ones.len(),
         growth.columns.ones.len(),
@@ -195,14 +182,35 @@ fn grow_space(
     ) {
         return Err(Stop::Limit);
     }
-    let (earlier, new) = parted(growth.rows.ones.as_slice(), rows);
-    let all = growth.columns.ones.as_slice();
-    join_pairs(
-        alloc, g, a, b, tables, shelf, space, new, all, joiners, numbers,
+    join_rows(
+        alloc,
+        g,
+        a,
+        b,
+        tables,
+        shelf,
+        space,
+        &growth.rows,
+        &growth.columns,
+        earlier,
+        joiners,
+        numbers,
+        &mut growth.cells,
     )?;
-    let (_, came) = parted(all, columns);
-    join_pairs(
-        alloc, g, a, b, tables, shelf, space, earlier, came, joiners, numbers,
+    join_rows(
+        alloc,
+        g,
+        a,
+        b,
+        tables,
+        shelf,
+        space,
+        &growth.rows,
+        &growth.columns,
+        0,
+        joiners,
+        numbers,
+        &mut growth.cells,
     )
 }
 
@@ -213,19 +221,10 @@ fn exceeds(rows: usize, columns: usize, limit: u32) -> bool
     rows as u128 * columns as u128 > CELLS_A_NODE as u128 * limit as u128
 }
 
-/// The first so many pairs, and the others.
-fn parted(pairs: &[(u32, u32)], many: usize) -> (&[(u32, u32)], &[(u32, u32)])
-    ensures first { (x : ℕ × ℕ) → Contains result.0.now x → Contains pairs.now x }
-    ensures others { (x : ℕ × ℕ) → Contains result.1.now x → Contains pairs.now x }
-{
-    if many > pairs.len() {
-        return (pairs, &[]);
-    }
-    (&pairs[..many], &pairs[many..])
-}
-
-/// Looks at the pairs that have come in the children of a space.
+/// Looks at the pairs that have come in the children of a space, and has a row for each class, without roots where it is new.
+#[allow(clippy::too_many_arguments)]
 fn look_at(
+    alloc: Global,
     g: &Guide,
     a: &Auto,
     b: &Auto,
@@ -238,8 +237,14 @@ fn look_at(
     requires second { IsAuto g.now shelf.now b.now }
     requires spaces { AreSpaces g.now (pairs (automaton_of shelf.now a.now) (automaton_of shelf.now b.now)) numbers.now.items }
     requires inside { space < length g.now }
-    requires seen { HasSeen g.now (pairs (automaton_of shelf.now a.now) (automaton_of shelf.now b.now)) a.now b.now space growth.old }
-    ensures { OnOk result (HasSeen g.now (pairs (automaton_of shelf.now a.now) (automaton_of shelf.now b.now)) a.now b.now space growth.new) }
+    requires grown { IsGrown g.now (pairs (automaton_of shelf.now a.now) (automaton_of shelf.now b.now)) a.now b.now
+        numbers.now.items shelf.now space growth.old }
+    ensures seen { OnOk result (HasSeen g.now (pairs (automaton_of shelf.now a.now) (automaton_of shelf.now b.now)) a.now b.now
+        numbers.now.items space growth.new.rows growth.new.columns) }
+    ensures all { OnOk result (HasAll g.now numbers.now.items space growth.new.rows growth.new.columns) }
+    ensures rows { OnOk result (HasRows (pairs (automaton_of shelf.now a.now) (automaton_of shelf.now b.now)) numbers.now.items shelf.now space
+        growth.new.rows.ones growth.new.columns.ones (length growth.new.rows.ones) growth.new.cells.items) }
+    ensures guide { IsGuide g.now }
 {
     let at = space as usize;
     let children = g.children(space).unwrap_or((0, 0));
@@ -249,12 +254,27 @@ fn look_at(
         .rows
         .look(lefts, first.rows.as_slice(), second.rows.as_slice())?;
     let rights = numbers[children.1 as usize].as_slice();
-    growth.columns.look(rights, first.columns.as_slice(), second.columns.as_slice())
+    growth.columns.look(rights, first.columns.as_slice(), second.columns.as_slice())?;
+    add_rows(alloc, growth.rows.ones.len(), &mut growth.cells)?;
+    Ok(())
 }
 
-/// Joins a space for each of these rows with each of these columns.
+/// Rows without roots, until there are so many rows.
+fn add_rows(alloc: Global, many: usize, cells: &mut Vec<RefList>) -> Result<(), NoMemory>
+    requires { length cells.old.items ≤ many }
+    ensures many { OnOk result (length cells.new.items ≡ many) }
+    ensures rows { OnOk result ((i : ℕ) (roots : List NodeRef) → slice_get cells.new.items i ≡ Some roots →
+        (slice_get cells.old.items i ≡ Some roots) ⊎ (roots ≡ [])) }
+{
+    for _row in cells.len()..many {
+        cells.push(RefList::new(alloc))?;
+    }
+    Ok(())
+}
+
+/// Joins a space for its rows from one on, each with the columns that it has no root for.
 #[allow(clippy::too_many_arguments)]
-fn join_pairs(
+fn join_rows(
     alloc: Global,
     _g: &Guide,
     a: &Auto,
@@ -262,28 +282,33 @@ fn join_pairs(
     tables: &Tables,
     shelf: &mut Shelf,
     space: u32,
-    rows: &[(u32, u32)],
-    columns: &[(u32, u32)],
+    rows: &Classes,
+    columns: &Classes,
+    from: usize,
     joiners: &mut Vec<Joiner>,
     numbers: &mut Vec<Numbering>,
+    cells: &mut Vec<RefList>,
 ) -> Result<(), Stop>
     requires first { IsAuto _g.now shelf.old a.now }
     requires second { IsAuto _g.now shelf.old b.now }
     requires tables { AreTables shelf.old a.now b.now tables.now }
     requires spaces { AreSpaces _g.now (pairs (automaton_of shelf.old a.now) (automaton_of shelf.old b.now)) numbers.old.items }
     requires inside { space < length _g.now }
-    requires rows { AreGenerated _g.now (pairs (automaton_of shelf.old a.now) (automaton_of shelf.old b.now)) (left _g.now space) rows.now }
-    requires columns { AreGenerated _g.now (pairs (automaton_of shelf.old a.now) (automaton_of shelf.old b.now)) (right _g.now space) columns.now }
+    requires rows { AreGenerated _g.now (pairs (automaton_of shelf.old a.now) (automaton_of shelf.old b.now)) (left _g.now space) rows.now.ones }
+    requires columns { AreGenerated _g.now (pairs (automaton_of shelf.old a.now) (automaton_of shelf.old b.now)) (right _g.now space) columns.now.ones }
+    requires cells { HasRows (pairs (automaton_of shelf.old a.now) (automaton_of shelf.old b.now)) numbers.old.items shelf.old space
+        rows.now.ones columns.now.ones (length rows.now.ones) cells.old.items }
     requires fits { FitAll shelf.old joiners.old.items numbers.old.items }
     ensures goes { Goes _g.now (pairs (automaton_of shelf.old a.now) (automaton_of shelf.old b.now))
         shelf.old shelf.new numbers.old.items numbers.new.items }
     ensures limit { result ≡ Err Stop.Limit → LacksRoom _g.now (pairs (automaton_of shelf.old a.now) (automaton_of shelf.old b.now))
         shelf.old numbers.old.items numbers.new.items }
     ensures spaces { AreSpaces _g.now (pairs (automaton_of shelf.old a.now) (automaton_of shelf.old b.now)) numbers.new.items }
+    ensures cells { OnOk result (HasRows (pairs (automaton_of shelf.old a.now) (automaton_of shelf.old b.now)) numbers.new.items shelf.new space
+        rows.now.ones columns.now.ones from cells.new.items) }
     ensures fits { OnOk result (FitAll shelf.new joiners.new.items numbers.new.items) }
 {
     let at = space as usize;
-    let mut roots = RefList::new(alloc);
     fill(
         alloc,
         a,
@@ -291,16 +316,17 @@ fn join_pairs(
         tables,
         shelf,
         space,
-        rows,
-        columns,
+        rows.ones.as_slice(),
+        columns.ones.as_slice(),
+        from,
         &mut joiners[at],
         &mut numbers[at],
-        &mut roots,
+        cells,
     )
 }
 
 /// How many pairs each space has.
-pub(crate) fn counts(alloc: Global, spaces: &Vec<Numbering>) -> Result<Items<u64>, NoMemory>
+fn counts(alloc: Global, spaces: &Vec<Numbering>) -> Result<Items<u64>, NoMemory>
     ensures { IfOk result (λ counts. counts ≡ map length spaces.now.items) }
 {
     let mut counts = Items::new(alloc);
@@ -311,7 +337,7 @@ pub(crate) fn counts(alloc: Global, spaces: &Vec<Numbering>) -> Result<Items<u64
 }
 
 /// Whether the counts are the same.
-pub(crate) fn are_same(one: &Items<u64>, other: &Items<u64>) -> bool
+fn are_same(one: &Items<u64>, other: &Items<u64>) -> bool
     ensures { IsTrue result ↔ other.now ≡ one.now }
 {
     one.as_slice() == other.as_slice()

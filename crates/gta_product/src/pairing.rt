@@ -1,28 +1,28 @@
 //! The product: pairs of states, as they are reached.
 
 ghost use Rattle.std.specs.List.{range_with_len};
-ghost use Rattle.std.specs.Prelude.{◌≡◌, ◌<◌, ◌+◌, ◌^◌, ◌&&◌, ℕ, Bool, List, [], length, map, None, Some, Err, All, IfOk, OnOk, OnErr, IsTrue, ◌↔◌};
-ghost use Rattle.bdd_nodes.specs.Shelf.{Contents, IsShelf, IsValid, count_of, limit_of};
+ghost use Rattle.std.specs.Prelude.{◌≡◌, ◌<◌, ◌≤◌, ◌+◌, ◌^◌, ◌&&◌, ◌++◌, ℕ, Bool, List, [], length, map, Some, Err, slice_get, IfOk, OnOk, OnErr, ◌↔◌};
+ghost use Rattle.bdd_nodes.specs.Shelf.{Contents, IsShelf, count_of, limit_of};
 ghost use Rattle.bdd_nodes.specs.Changes.{Keeps, SameTables};
 ghost use Rattle.gta_theory.specs.Assignments.{Assignment};
-ghost use Rattle.gta_theory.specs.Guides.{Spaces, IsGuide, IsSpace, left, right};
+ghost use Rattle.gta_theory.specs.Guides.{IsGuide};
 ghost use Rattle.gta_theory.specs.Automata.{Automaton, Accepts, Has};
 ghost use Rattle.gta_theory.specs.Constructions.{IsProduct, pairs};
 ghost use Rattle.gta_theory.specs.Sizes.{SizeOf};
-ghost use Rattle.gta_core.specs.Auto.{states_of, initial_of, is_accepting, automaton_of, IsAuto};
+ghost use Rattle.gta_core.specs.Auto.{AutoView, states_of, initial_of, is_accepting, automaton_of, IsAuto};
 ghost use Rattle.gta_core.specs.Changes.{RegistersTable};
-ghost use Rattle.gta_core.specs.Placing.{Grows};
 ghost use Rattle.gta_product.specs.Product.{IsProductOf};
 ghost use Rattle.gta_product.specs.Tables.{AreTables};
-ghost use Rattle.gta_product.specs.Building.{AreSpaces, FitAll, ExtendAll, Building, CompleteAll, ExceedsSteps, IsPartOf, AreParts, Leaves, Exceeded};
-ghost use Rattle.gta_product.specs.Settled.{IsSettled};
+ghost use Rattle.gta_product.specs.Filling.{row_by_row};
+ghost use Rattle.gta_product.specs.Building.{AreSpaces, FitAll, AreParts, Leaves, Exceeded};
+ghost use Rattle.gta_product.specs.Growing.{AreDone};
+ghost use Rattle.gta_product.specs.Settled.{IsAssembled, IsSettled};
+ghost use Rattle.gta_product.specs.declared.growing.Growth.{Growth};
 
-use crate::classes::classify;
-use crate::filling::fill;
-use crate::growing::{are_same, counts, grow, growths};
+use crate::growing::{Growth, grow, growths};
 use crate::numbering::Numbering;
 use crate::tables::Tables;
-use bdd_nodes::{RefList, Shelf};
+use bdd_nodes::{NodeRef, RefList, Shelf};
 use bdd_walk::{Joiner, NoMemory, Stop};
 use gta_core::{Auto, BoolList, Part};
 use plain_data::Items;
@@ -84,7 +84,7 @@ pub(crate) struct Settled {
     pub(crate) roots: RefList,
 }
 
-/// Joins for the pairs as they come, until none comes; and then once more for all pairs, which gives the roots.
+/// Joins for the pairs as they come, until none comes. What the spaces were joined for then are the parts.
 fn settle(
     alloc: Global,
     g: &Guide,
@@ -105,40 +105,24 @@ fn settle(
     let mut numbers = start(alloc, g, a, b)?;
     let mut joiners = joiners(alloc, g)?;
     let mut growths = growths(alloc, g)?;
-    loop {
-        grow(
-            alloc,
-            g,
-            a,
-            b,
-            tables,
-            shelf,
-            &mut joiners,
-            &mut numbers,
-            &mut growths,
-        )?;
-        let before = counts(alloc, &numbers)?;
-        let mut roots = RefList::new(alloc);
-        let parts = parts_of(
-            alloc,
-            g,
-            a,
-            b,
-            tables,
-            shelf,
-            &mut joiners,
-            &mut numbers,
-            &mut roots,
-        )?;
-        let after = counts(alloc, &numbers)?;
-        if are_same(&before, &after) {
-            return Ok(Settled {
-                numbers,
-                parts,
-                roots,
-            });
-        }
-    }
+    grow(
+        alloc,
+        g,
+        a,
+        b,
+        tables,
+        shelf,
+        &mut joiners,
+        &mut numbers,
+        &mut growths,
+    )?;
+    let mut roots = RefList::new(alloc);
+    let parts = parts_of(alloc, g, &numbers, &growths, &mut roots)?;
+    Ok(Settled {
+        numbers,
+        parts,
+        roots,
+    })
 }
 
 /// The initial pair of each space.
@@ -209,131 +193,85 @@ fn is_accepting_in(a: &Auto, state: u32) -> bool
     }
 }
 
-/// The parts of all spaces, for the pairs so far.
-#[allow(clippy::too_many_arguments)]
+/// The parts of all spaces, of what each was joined for, and their roots.
 fn parts_of(
     alloc: Global,
     g: &Guide,
-    a: &Auto,
-    b: &Auto,
-    tables: &Tables,
-    shelf: &mut Shelf,
-    joiners: &mut Vec<Joiner>,
-    numbers: &mut Vec<Numbering>,
+    numbers: &Vec<Numbering>,
+    growths: &Vec<Growth>,
     roots: &mut RefList,
-) -> Result<Items<Part>, Stop>
-    requires first { IsAuto g.now shelf.old a.now }
-    requires second { IsAuto g.now shelf.old b.now }
-    requires tables { AreTables shelf.old a.now b.now tables.now }
-    requires spaces { AreSpaces g.now (pairs (automaton_of shelf.old a.now) (automaton_of shelf.old b.now)) numbers.old.items }
-    requires fits { FitAll shelf.old joiners.old.items numbers.old.items }
+) -> Result<Items<Part>, NoMemory>
+    requires numbers { length numbers.now.items ≡ length g.now }
+    requires growths { length growths.now.items ≡ length g.now }
+    requires few { (s : ℕ) (growth : Growth) → slice_get growths.now.items s ≡ Some growth → length growth.columns.ones ≤ 2 ^ 31 }
     requires none { roots.old ≡ [] }
-    ensures extends { ExtendAll numbers.old.items numbers.new.items }
-    ensures kept { Keeps shelf.old shelf.new }
-    ensures tables { SameTables shelf.old shelf.new }
-    ensures building { (start : Contents) → Building g.now (pairs (automaton_of shelf.old a.now) (automaton_of shelf.old b.now))
-        start shelf.old numbers.old.items
-        → Building g.now (pairs (automaton_of shelf.old a.now) (automaton_of shelf.old b.now)) start shelf.new numbers.new.items }
-    ensures limit { result ≡ Err Stop.Limit → (start : Contents) → Building g.now (pairs (automaton_of shelf.old a.now) (automaton_of shelf.old b.now))
-        start shelf.old numbers.old.items → (given : ℕ → List ℕ → ℕ) → CompleteAll g.now (pairs (automaton_of shelf.old a.now) (automaton_of
-        shelf.old b.now)) numbers.new.items given
-        → ExceedsSteps g.now (pairs (automaton_of shelf.old a.now) (automaton_of shelf.old b.now)) start given }
-    ensures fits { OnOk result (FitAll shelf.new joiners.new.items numbers.new.items) }
-    ensures valid { OnOk result (All (IsValid shelf.new) roots.new) }
     ensures many { IfOk result (λ parts. length parts ≡ length g.now) }
-    ensures parts { IfOk result (λ parts. numbers.new.items ≡ numbers.old.items →
-        AreParts g.now (pairs (automaton_of shelf.old a.now) (automaton_of shelf.old b.now)) a.now b.now
-        numbers.old.items numbers.old.items shelf.new roots.new parts) }
+    ensures parts { IfOk result (λ parts. (AB : Automaton (ℕ × ℕ)) (a b : AutoView) (shelf : Contents) →
+        AreDone g.now AB a b numbers.now.items shelf growths.now.items → AreParts g.now AB a b numbers.now.items shelf roots.new parts) }
 {
     let mut parts = Items::new(alloc);
     for space in 0..g.spaces() {
-        let part = part_of(
-            alloc, g, a, b, tables, shelf, space, joiners, numbers, roots,
-        )?;
+        let at = space as usize;
+        let part = part_of(alloc, g, space, &numbers[at], &growths[at], roots)?;
         parts.push(part)?;
     }
     Ok(parts)
 }
 
-/// The part of a space, for the pairs of its children so far.
-#[allow(clippy::too_many_arguments)]
+/// The part of a space, of what it was joined for; its roots are put behind the others.
 fn part_of(
     alloc: Global,
     g: &Guide,
-    a: &Auto,
-    b: &Auto,
-    tables: &Tables,
-    shelf: &mut Shelf,
     space: u32,
-    joiners: &mut Vec<Joiner>,
-    numbers: &mut Vec<Numbering>,
+    numbers: &Numbering,
+    growth: &Growth,
     roots: &mut RefList,
-) -> Result<Part, Stop>
-    requires first { IsAuto g.now shelf.old a.now }
-    requires second { IsAuto g.now shelf.old b.now }
-    requires tables { AreTables shelf.old a.now b.now tables.now }
-    requires spaces { AreSpaces g.now (pairs (automaton_of shelf.old a.now) (automaton_of shelf.old b.now)) numbers.old.items }
-    requires fits { FitAll shelf.old joiners.old.items numbers.old.items }
+) -> Result<Part, NoMemory>
     requires inside { space < length g.now }
-    requires valid { All (IsValid shelf.old) roots.old }
-    ensures extends { ExtendAll numbers.old.items numbers.new.items }
-    ensures kept { Keeps shelf.old shelf.new }
-    ensures tables { SameTables shelf.old shelf.new }
-    ensures building { (start : Contents) → Building g.now (pairs (automaton_of shelf.old a.now) (automaton_of shelf.old b.now))
-        start shelf.old numbers.old.items
-        → Building g.now (pairs (automaton_of shelf.old a.now) (automaton_of shelf.old b.now)) start shelf.new numbers.new.items }
-    ensures limit { result ≡ Err Stop.Limit → (start : Contents) → Building g.now (pairs (automaton_of shelf.old a.now) (automaton_of shelf.old b.now))
-        start shelf.old numbers.old.items → (given : ℕ → List ℕ → ℕ) → CompleteAll g.now (pairs (automaton_of shelf.old a.now) (automaton_of
-        shelf.old b.now)) numbers.new.items given
-        → ExceedsSteps g.now (pairs (automaton_of shelf.old a.now) (automaton_of shelf.old b.now)) start given }
-    ensures fits { OnOk result (FitAll shelf.new joiners.new.items numbers.new.items) }
-    ensures valid { OnOk result (All (IsValid shelf.new) roots.new) }
-    ensures grown { OnOk result (Grows roots.old roots.new) }
-    ensures spaces { OnOk result (AreSpaces g.now (pairs (automaton_of shelf.old a.now) (automaton_of shelf.old b.now)) numbers.new.items) }
-    ensures part { IfOk result (IsPartOf g.now (pairs (automaton_of shelf.old a.now) (automaton_of shelf.old b.now)) a.now b.now
-        numbers.old.items numbers.new.items shelf.new roots.new space) }
-    ensures start { IfOk result (λ part. (part.first ≡ length roots.old) × (length roots.new ≡ length roots.old + length part.cells)) }
+    requires few { length growth.now.columns.ones ≤ 2 ^ 31 }
+    ensures roots { OnOk result (roots.new ≡ roots.old ++ row_by_row growth.now.cells.items) }
+    ensures part { IfOk result (IsAssembled g.now space numbers.now growth.now roots.old) }
 {
-    let at = space as usize;
     let children = g.children(space).unwrap_or((0, 0));
-    let (first, second) = (&a.parts()[at], &b.parts()[at]);
-    let lefts = numbers[children.0 as usize].as_slice();
-    let rows = classify(alloc, lefts, first.rows.as_slice(), second.rows.as_slice())?;
-    let rights = numbers[children.1 as usize].as_slice();
-    let columns = classify(
-        alloc,
-        rights,
-        first.columns.as_slice(),
-        second.columns.as_slice(),
-    )?;
     if roots.len() > u32::MAX as usize {
-        return Err(Stop::NoMemory);
+        return Err(AllocError);
     }
-    let start = roots.len() as u32;
-    fill(
-        alloc,
-        a,
-        b,
-        tables,
-        shelf,
-        space,
-        rows.ones.as_slice(),
-        columns.ones.as_slice(),
-        &mut joiners[at],
-        &mut numbers[at],
-        roots,
-    )?;
-    let many = roots.len() - start as usize;
+    let first = roots.len() as u32;
+    add_roots(&growth.cells, roots)?;
+    let many = roots.len() - first as usize;
+    let rows = Items::from_slice(alloc, growth.rows.of.as_slice())?;
+    let columns = Items::from_slice(alloc, growth.columns.of.as_slice())?;
+    let cells = count_up(alloc, many)?;
     Ok(Part {
-        states: numbers[at].len() as u32,
+        states: numbers.len() as u32,
         initial: 0,
         children,
-        first: start,
-        rows: rows.of,
-        columns: columns.of,
-        width: columns.ones.len() as u32,
-        cells: count_up(alloc, many)?,
+        first,
+        rows,
+        columns,
+        width: growth.columns.ones.len() as u32,
+        cells,
     })
+}
+
+/// Puts the roots of all rows behind the others, row after row.
+fn add_roots(cells: &Vec<RefList>, roots: &mut RefList) -> Result<(), NoMemory>
+    ensures { OnOk result (roots.new ≡ roots.old ++ row_by_row cells.now.items) }
+{
+    for row in cells {
+        add_row(row.as_slice(), roots)?;
+    }
+    Ok(())
+}
+
+/// Puts the roots of a row behind the others.
+fn add_row(row: &[NodeRef], roots: &mut RefList) -> Result<(), NoMemory>
+    ensures { OnOk result (roots.new ≡ roots.old ++ row.now) }
+{
+    for root in row {
+        roots.push(*root)?;
+    }
+    Ok(())
 }
 
 /// The numbers below.

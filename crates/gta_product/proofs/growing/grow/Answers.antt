@@ -1,12 +1,13 @@
 -- Again and again, until nothing comes.
-use Rattle.std.proofs.Common.{ℕ, sym, ◌∙◌}
+use Rattle.std.proofs.Common.{◌≡◌, ℕ, List, sym, ◌∙◌, subst}
 use Rattle.std.proofs.lemmas.Bool.{false≢true}
 use Rattle.gta_theory.specs.Automata.{Automaton}
 use Rattle.gta_theory.specs.Constructions.{pairs}
 use Rattle.gta_core.specs.Auto.{automaton_of}
 use Rattle.gta_product.specs.Building.{AreSpaces}
-use Rattle.gta_product.specs.Growing.{HaveSeen}
+use Rattle.gta_product.specs.Growing.{HaveAll, AreGrown}
 use Rattle.gta_product.proofs.GrowingLemmas.{Goes-none, both-on, both-back, auto-on, Goes-next, LacksRoom-next, room-less}
+use Rattle.gta_product.proofs.FinalLemmas.{same-spaces}
 use Rattle.gta_product.proofs.TablesLemmas.{AreTables-kept}
 use Rattle.gta_product.proofs.growing.grow.Goals as goal
 
@@ -15,7 +16,7 @@ loop-before-init c = record {
   goes = Goes-none c.args.g.now (pairs (automaton_of c.args.shelf.now c.args.a.now) (automaton_of c.args.shelf.now c.args.b.now)) c.args.shelf.now
       c.args.numbers.now.items c.requires.tables.is_shelf;
   are = c.requires.spaces;
-  seen = c.requires.seen;
+  grown = c.requires.grown;
   fits = c.requires.fits;
 }
 
@@ -41,11 +42,12 @@ grow_once-requires-clause-spaces c = both-on c.args.g.now c.args.a.now c.args.b.
     c.loop-before.invariant.goes
     (λ (AB : Automaton (ℕ × ℕ)). AreSpaces c.args.g.now AB c.loop-before.numbers.items) c.loop-before.invariant.are
 
-pub grow_once-requires-clause-seen : goal.grow_once-requires-clause-seen
-grow_once-requires-clause-seen c = both-on c.args.g.now c.args.a.now c.args.b.now c.args.shelf.now c.loop-before.shelf c.requires.tables.is_shelf
+pub grow_once-requires-clause-grown : goal.grow_once-requires-clause-grown
+grow_once-requires-clause-grown c = both-on c.args.g.now c.args.a.now c.args.b.now c.args.shelf.now c.loop-before.shelf c.requires.tables.is_shelf
     c.args.numbers.now.items c.loop-before.numbers.items
     c.loop-before.invariant.goes
-    (λ (AB : Automaton (ℕ × ℕ)). HaveSeen c.args.g.now AB c.args.a.now c.args.b.now c.loop-before.growths.items) c.loop-before.invariant.seen
+    (λ (AB : Automaton (ℕ × ℕ)). AreGrown c.args.g.now AB c.args.a.now c.args.b.now c.loop-before.numbers.items c.loop-before.shelf
+    c.loop-before.growths.items) c.loop-before.invariant.grown
 
 pub returns-in_err-grow_once-clause-goes : goal.returns-in_err-grow_once-clause-goes
 returns-in_err-grow_once-clause-goes c = Goes-next c.args.g.now c.args.a.now c.args.b.now c.args.shelf.now c.loop-before.shelf c.requires.tables.is_shelf
@@ -74,11 +76,20 @@ returns-then-are_same-clause-spaces c = both-back c.args.g.now c.args.a.now c.ar
     c.loop-before.numbers.items c.loop-before.invariant.goes
     (λ (AB : Automaton (ℕ × ℕ)). AreSpaces c.args.g.now AB c.grow_once.new.numbers.items) c.in_ok-grow_once.ensures.spaces
 
-pub returns-then-are_same-clause-seen : goal.returns-then-are_same-clause-seen
-returns-then-are_same-clause-seen c = both-back c.args.g.now c.args.a.now c.args.b.now c.args.shelf.now c.loop-before.shelf c.requires.tables.is_shelf
+pub returns-then-are_same-clause-grown : goal.returns-then-are_same-clause-grown
+returns-then-are_same-clause-grown c = both-back c.args.g.now c.args.a.now c.args.b.now c.args.shelf.now c.loop-before.shelf c.requires.tables.is_shelf
     c.args.numbers.now.items
     c.loop-before.numbers.items c.loop-before.invariant.goes
-    (λ (AB : Automaton (ℕ × ℕ)). HaveSeen c.args.g.now AB c.args.a.now c.args.b.now c.grow_once.new.growths.items) c.in_ok-grow_once.ensures.seen
+    (λ (AB : Automaton (ℕ × ℕ)). AreGrown c.args.g.now AB c.args.a.now c.args.b.now c.grow_once.new.numbers.items c.grow_once.new.shelf
+    c.grow_once.new.growths.items) c.in_ok-grow_once.ensures.grown
+
+pub returns-then-are_same-clause-all : goal.returns-then-are_same-clause-all
+returns-then-are_same-clause-all c =
+    let before = c.loop-before.numbers.items in
+    let after = c.grow_once.new.numbers.items in
+    let counted = sym c.in_ok-before.ensures ∙ sym (c.are_same.ensures.0 c.if-are_same.true) ∙ c.in_ok-after.ensures in
+    let same : before ≡ after = same-spaces before after c.grow_once.ensures.goes.extends counted in
+    subst (λ (spaces : List (List (ℕ × ℕ))). HaveAll c.args.g.now spaces c.grow_once.new.growths.items) same c.in_ok-grow_once.ensures.all
 
 pub loop-before-preserved : goal.loop-before-preserved
 loop-before-preserved c = record {
@@ -87,9 +98,10 @@ loop-before-preserved c = record {
   are = both-back c.args.g.now c.args.a.now c.args.b.now c.args.shelf.now c.loop-before.shelf c.requires.tables.is_shelf c.args.numbers.now.items
       c.loop-before.numbers.items c.loop-before.invariant.goes
       (λ (AB : Automaton (ℕ × ℕ)). AreSpaces c.args.g.now AB c.grow_once.new.numbers.items) c.in_ok-grow_once.ensures.spaces;
-  seen = both-back c.args.g.now c.args.a.now c.args.b.now c.args.shelf.now c.loop-before.shelf c.requires.tables.is_shelf c.args.numbers.now.items
+  grown = both-back c.args.g.now c.args.a.now c.args.b.now c.args.shelf.now c.loop-before.shelf c.requires.tables.is_shelf c.args.numbers.now.items
       c.loop-before.numbers.items c.loop-before.invariant.goes
-      (λ (AB : Automaton (ℕ × ℕ)). HaveSeen c.args.g.now AB c.args.a.now c.args.b.now c.grow_once.new.growths.items) c.in_ok-grow_once.ensures.seen;
+      (λ (AB : Automaton (ℕ × ℕ)). AreGrown c.args.g.now AB c.args.a.now c.args.b.now c.grow_once.new.numbers.items c.grow_once.new.shelf
+      c.grow_once.new.growths.items) c.in_ok-grow_once.ensures.grown;
   fits = c.in_ok-grow_once.ensures.fits;
 }
 

@@ -1,13 +1,15 @@
 use Rattle.gta_theory.specs.Constructions.{pairs}
 use Rattle.gta_core.specs.Auto.{automaton_of}
 use Rattle.gta_product.specs.Building.{AreSpaces, FitAll}
-use Rattle.gta_product.specs.Growing.{HaveSeen, Goes}
+use Rattle.gta_product.specs.Growing.{AreGrown, Goes}
+use Rattle.gta_product.proofs.GrownLemmas.{HaveSome}
 use Rattle.gta_product.proofs.growing.grow_once.Given as goal
 
 abbrev pub invariant-loop-space : goal.invariant-loop-space
 invariant-loop-space l = record {
   goes : Goes l.g (pairs (automaton_of l.fn.shelf l.a) (automaton_of l.fn.shelf l.b)) l.fn.shelf l.shelf l.fn.numbers.items l.numbers.items;
   are : AreSpaces l.g (pairs (automaton_of l.fn.shelf l.a) (automaton_of l.fn.shelf l.b)) l.numbers.items;
-  seen : HaveSeen l.g (pairs (automaton_of l.fn.shelf l.a) (automaton_of l.fn.shelf l.b)) l.a l.b l.growths.items;
+  grown : AreGrown l.g (pairs (automaton_of l.fn.shelf l.a) (automaton_of l.fn.shelf l.b)) l.a l.b l.numbers.items l.shelf l.growths.items;
+  all : HaveSome l.g l.fn.numbers.items l.space l.growths.items;
   fits : FitAll l.shelf l.joiners.items l.numbers.items;
 }

@@ -1,7 +1,8 @@
 use Rattle.std.proofs.Common.{◌≡◌, List, [], ◌∷◌, length, length-append, Option, Some, None, slice_get, sym, ◌∙◌, ap, subst, inl, inr, arith}
 use Rattle.gta_product.specs.declared.growing.Growth.{Growth}
+use Rattle.gta_product.specs.Growing.{IsNew}
 use Rattle.gta_product.proofs.NumbersLemmas.{get-snoc}
-use Rattle.gta_product.proofs.GrowingLemmas.{IsNew, HasSeen-none}
+use Rattle.gta_product.proofs.GrownLemmas.{IsGrown-none}
 use Rattle.gta_product.proofs.growing.growths.Goals as goal
 
 no-growth : (growth : Growth) → ◌≡◌ {A = Option Growth} None (Some growth) → ⊥
@@ -15,7 +16,7 @@ loop-space-init c = record {
 
 pub loop-space-preserved : goal.loop-space-preserved
 loop-space-preserved c =
-    let more : Growth = record { rows = c.new.result; columns = c.new-in-loop-space.result } in
+    let more = c.new.result in
     record {
       many =
           let a = ap (λ (gs : List Growth). length gs) c.in_ok-push.ensures.items in
@@ -25,15 +26,12 @@ loop-space-preserved c =
       none = λ s growth there. elim (get-snoc c.loop-space.growths.items more growth s
           (ap (λ (gs : List Growth). slice_get gs s) (sym c.in_ok-push.ensures.items) ∙ there)) [
             | inl before ↦ c.loop-space.invariant.none s growth before
-            | inr last ↦ subst (λ (g : Growth). IsNew g.rows × IsNew g.columns) (sym last.1) (
-              record { ones = c.new.ensures.ones; keys = c.new.ensures.keys },
-              record { ones = c.new-in-loop-space.ensures.ones; keys = c.new-in-loop-space.ensures.keys },
-            )
+            | inr last ↦ subst (λ (g : Growth). IsNew g) (sym last.1) c.new.ensures
           ];
     }
 
 pub returns : goal.returns
-returns c = λ A B a b. record {
+returns c = λ AB a b spaces shelf. record {
   many = let m = c.loop-space.invariant.many in let e = c.spaces-space-end.ensures.value in omega arith;
-  each = λ s growth there. let none = c.loop-space.invariant.none s growth there in HasSeen-none _ _ a b s growth none.0 none.1;
+  each = λ s growth there. IsGrown-none c.args.g.now AB a b spaces shelf s growth (c.loop-space.invariant.none s growth there);
 }

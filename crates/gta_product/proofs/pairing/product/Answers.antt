@@ -14,7 +14,7 @@ use Rattle.gta_product.proofs.ProductLemmas.{limit-product, RegistersTable-after
 use Rattle.gta_product.proofs.pairing.product.Goals as goal
 
 pub from_parts-requires-clause-valid : goal.from_parts-requires-clause-valid
-from_parts-requires-clause-valid c = c.in_ok-settled.ensures.settled.valid
+from_parts-requires-clause-valid c = c.in_ok-settled.ensures.settled.parts.valid
 
 pub from_parts-requires-clause-whole : goal.from_parts-requires-clause-whole
 from_parts-requires-clause-whole c = λ table.

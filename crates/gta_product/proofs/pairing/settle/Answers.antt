@@ -1,213 +1,71 @@
--- The product is built as pairs come, and once more for all pairs, which gives the roots.
-use Rattle.std.proofs.Common.{◌≡◌, ℕ, List, inl, sym, ◌∙◌, subst, arith}
-use Rattle.std.proofs.lemmas.Bool.{false≢true}
-use Rattle.gta_theory.specs.Automata.{Automaton}
+-- The product is built as pairs come; at the end each space was joined for all pairs of its children.
+use Rattle.std.proofs.Common.{◌∙◌}
 use Rattle.gta_theory.specs.Constructions.{pairs}
 use Rattle.gta_core.specs.Auto.{automaton_of}
-use Rattle.gta_product.specs.Building.{AreSpaces, AreParts}
-use Rattle.gta_product.specs.Growing.{HaveSeen}
-use Rattle.gta_product.proofs.FinalLemmas.{same-spaces}
-use Rattle.gta_product.proofs.ProductLemmas.{Building-start, Leaves-building, Leaves-none}
-use Rattle.gta_product.proofs.GrowingLemmas.{to-now, to-first, auto-now, Building-goes, Exceeded-goes, room-most, room-less}
-use Rattle.gta_product.proofs.TablesLemmas.{AreTables-kept}
+use Rattle.gta_product.proofs.ProductLemmas.{Building-start, Leaves-none, Leaves-goes, Exceeded-start, AreDone-goes}
+use Rattle.gta_product.proofs.AssembledLemmas.{columns-few}
 use Rattle.gta_product.proofs.pairing.settle.Goals as goal
 
-pub loop-growths-init : goal.loop-growths-init
-loop-growths-init c =
-    let AB = pairs (automaton_of c.args.shelf.now c.args.a.now) (automaton_of c.args.shelf.now c.args.b.now) in
-    let are = c.in_ok-numbers.ensures.spaces c.args.shelf.now in
-    record {
-      building = Building-start c.args.g.now AB c.args.shelf.now c.in_ok-numbers.numbers.items c.requires.tables.is_shelf are;
-      fits = c.in_ok-joiners.ensures c.args.shelf.now c.in_ok-numbers.numbers.items are.many;
-      seen = c.in_ok-growths.ensures (automaton_of c.args.shelf.now c.args.a.now) (automaton_of c.args.shelf.now c.args.b.now) c.args.a.now c.args.b.now;
-    }
-
-pub grow-requires-clause-first : goal.grow-requires-clause-first
-grow-requires-clause-first c =
-    auto-now c.args.g.now c.args.a.now c.args.b.now c.args.shelf.now c.loop-growths.shelf c.requires.tables.is_shelf c.loop-growths.numbers.items
-    c.loop-growths.invariant.building c.args.a.now c.requires.first
-
-pub grow-requires-clause-second : goal.grow-requires-clause-second
-grow-requires-clause-second c =
-    auto-now c.args.g.now c.args.a.now c.args.b.now c.args.shelf.now c.loop-growths.shelf c.requires.tables.is_shelf c.loop-growths.numbers.items
-    c.loop-growths.invariant.building c.args.b.now c.requires.second
-
-pub grow-requires-clause-tables : goal.grow-requires-clause-tables
-grow-requires-clause-tables c =
-    let done = c.loop-growths.invariant.building in
-    AreTables-kept c.args.shelf.now c.loop-growths.shelf done.shelf done.same_limit done.tables
-    c.args.a.now c.args.b.now c.args.tables.now c.requires.tables
-
 pub grow-requires-clause-spaces : goal.grow-requires-clause-spaces
-grow-requires-clause-spaces c =
-    to-now c.args.g.now c.args.a.now c.args.b.now c.args.shelf.now c.loop-growths.shelf c.requires.tables.is_shelf c.loop-growths.numbers.items
-    c.loop-growths.invariant.building (λ (AB : Automaton (ℕ × ℕ)). AreSpaces c.args.g.now AB c.loop-growths.numbers.items)
-    c.loop-growths.invariant.building.are
+grow-requires-clause-spaces c = c.in_ok-numbers.ensures.spaces c.args.shelf.now
 
-pub grow-requires-clause-seen : goal.grow-requires-clause-seen
-grow-requires-clause-seen c =
-    to-now c.args.g.now c.args.a.now c.args.b.now c.args.shelf.now c.loop-growths.shelf c.requires.tables.is_shelf c.loop-growths.numbers.items
-    c.loop-growths.invariant.building (λ (AB : Automaton (ℕ × ℕ)). HaveSeen c.args.g.now AB c.args.a.now c.args.b.now c.loop-growths.growths.items)
-    c.loop-growths.invariant.seen
+pub grow-requires-clause-grown : goal.grow-requires-clause-grown
+grow-requires-clause-grown c =
+    c.in_ok-growths.ensures (pairs (automaton_of c.args.shelf.now c.args.a.now) (automaton_of c.args.shelf.now c.args.b.now)) c.args.a.now c.args.b.now
+    c.in_ok-numbers.numbers.items c.args.shelf.now
 
-pub parts_of-requires-clause-first : goal.parts_of-requires-clause-first
-parts_of-requires-clause-first c =
-    let grown = Building-goes c.args.g.now c.args.a.now c.args.b.now c.args.shelf.now c.loop-growths.shelf c.requires.tables.is_shelf
-    c.loop-growths.numbers.items
-    c.loop-growths.invariant.building
-    c.grow.new.shelf c.grow.new.numbers.items c.grow.ensures.goes.building in
-    auto-now c.args.g.now c.args.a.now c.args.b.now c.args.shelf.now c.grow.new.shelf c.requires.tables.is_shelf c.grow.new.numbers.items grown
-    c.args.a.now c.requires.first
+pub grow-requires-clause-fits : goal.grow-requires-clause-fits
+grow-requires-clause-fits c = c.in_ok-joiners.ensures c.args.shelf.now c.in_ok-numbers.numbers.items (c.in_ok-numbers.ensures.spaces c.args.shelf.now).many
 
-pub parts_of-requires-clause-second : goal.parts_of-requires-clause-second
-parts_of-requires-clause-second c =
-    let grown = Building-goes c.args.g.now c.args.a.now c.args.b.now c.args.shelf.now c.loop-growths.shelf c.requires.tables.is_shelf
-    c.loop-growths.numbers.items
-    c.loop-growths.invariant.building
-    c.grow.new.shelf c.grow.new.numbers.items c.grow.ensures.goes.building in
-    auto-now c.args.g.now c.args.a.now c.args.b.now c.args.shelf.now c.grow.new.shelf c.requires.tables.is_shelf c.grow.new.numbers.items grown
-    c.args.b.now c.requires.second
+pub parts_of-requires-clause-numbers : goal.parts_of-requires-clause-numbers
+parts_of-requires-clause-numbers c = c.in_ok-grow.ensures.spaces.many
 
-pub parts_of-requires-clause-tables : goal.parts_of-requires-clause-tables
-parts_of-requires-clause-tables c =
-    let grown = Building-goes c.args.g.now c.args.a.now c.args.b.now c.args.shelf.now c.loop-growths.shelf c.requires.tables.is_shelf
-    c.loop-growths.numbers.items c.loop-growths.invariant.building
-    c.grow.new.shelf c.grow.new.numbers.items c.grow.ensures.goes.building in
-    AreTables-kept c.args.shelf.now c.grow.new.shelf grown.shelf grown.same_limit grown.tables c.args.a.now c.args.b.now c.args.tables.now c.requires.tables
+pub parts_of-requires-clause-growths : goal.parts_of-requires-clause-growths
+parts_of-requires-clause-growths c = c.in_ok-grow.ensures.grown.many
 
-pub parts_of-requires-clause-spaces : goal.parts_of-requires-clause-spaces
-parts_of-requires-clause-spaces c =
-    let grown = Building-goes c.args.g.now c.args.a.now c.args.b.now c.args.shelf.now c.loop-growths.shelf c.requires.tables.is_shelf
-    c.loop-growths.numbers.items
-    c.loop-growths.invariant.building
-    c.grow.new.shelf c.grow.new.numbers.items c.grow.ensures.goes.building in
-    to-now c.args.g.now c.args.a.now c.args.b.now c.args.shelf.now c.grow.new.shelf c.requires.tables.is_shelf c.grow.new.numbers.items grown
-    (λ (AB : Automaton (ℕ × ℕ)). AreSpaces c.args.g.now AB c.grow.new.numbers.items) grown.are
+pub parts_of-requires-clause-few : goal.parts_of-requires-clause-few
+parts_of-requires-clause-few c =
+    let AB = pairs (automaton_of c.args.shelf.now c.args.a.now) (automaton_of c.args.shelf.now c.args.b.now) in
+    let e = c.in_ok-grow.ensures in
+    columns-few c.args.g.now AB c.args.a.now c.args.b.now c.grow.new.numbers.items c.grow.new.shelf c.start.ensures.guide c.grow.new.growths.items
+    (AreDone-goes c.args.g.now c.args.shelf.now c.args.a.now c.args.b.now c.requires.first c.requires.second c.grow.new.numbers.items
+    c.grow.new.shelf c.grow.new.growths.items e.spaces e.grown e.all)
 
 pub returns-in_err-numbers-clause-leaves : goal.returns-in_err-numbers-clause-leaves
-returns-in_err-numbers-clause-leaves c =
-    Leaves-none c.args.shelf.now c.requires.tables.is_shelf
+returns-in_err-numbers-clause-leaves c = Leaves-none c.args.shelf.now c.requires.tables.is_shelf
 
 pub returns-in_err-joiners-clause-leaves : goal.returns-in_err-joiners-clause-leaves
-returns-in_err-joiners-clause-leaves c =
-    Leaves-none c.args.shelf.now c.requires.tables.is_shelf
+returns-in_err-joiners-clause-leaves c = Leaves-none c.args.shelf.now c.requires.tables.is_shelf
 
 pub returns-in_err-growths-clause-leaves : goal.returns-in_err-growths-clause-leaves
-returns-in_err-growths-clause-leaves c =
-    Leaves-none c.args.shelf.now c.requires.tables.is_shelf
+returns-in_err-growths-clause-leaves c = Leaves-none c.args.shelf.now c.requires.tables.is_shelf
 
 pub returns-in_err-grow-clause-leaves : goal.returns-in_err-grow-clause-leaves
-returns-in_err-grow-clause-leaves c =
-    let grown = Building-goes c.args.g.now c.args.a.now c.args.b.now c.args.shelf.now c.loop-growths.shelf c.requires.tables.is_shelf
-    c.loop-growths.numbers.items
-    c.loop-growths.invariant.building
-    c.grow.new.shelf c.grow.new.numbers.items c.grow.ensures.goes.building in
-    Leaves-building _ _ _ _ _ grown
-
-pub returns-in_err-before-clause-leaves : goal.returns-in_err-before-clause-leaves
-returns-in_err-before-clause-leaves c =
-    let grown = Building-goes c.args.g.now c.args.a.now c.args.b.now c.args.shelf.now c.loop-growths.shelf c.requires.tables.is_shelf
-    c.loop-growths.numbers.items
-    c.loop-growths.invariant.building
-    c.grow.new.shelf c.grow.new.numbers.items c.grow.ensures.goes.building in
-    Leaves-building _ _ _ _ _ grown
+returns-in_err-grow-clause-leaves c = Leaves-goes _ _ _ _ _ _ c.grow.ensures.goes
 
 pub returns-in_err-parts-clause-leaves : goal.returns-in_err-parts-clause-leaves
-returns-in_err-parts-clause-leaves c =
-    let grown = Building-goes c.args.g.now c.args.a.now c.args.b.now c.args.shelf.now c.loop-growths.shelf c.requires.tables.is_shelf
-    c.loop-growths.numbers.items
-    c.loop-growths.invariant.building
-    c.grow.new.shelf c.grow.new.numbers.items c.grow.ensures.goes.building in
-    let next = Building-goes c.args.g.now c.args.a.now c.args.b.now c.args.shelf.now c.grow.new.shelf c.requires.tables.is_shelf c.grow.new.numbers.items grown
-    c.parts_of.new.shelf c.parts_of.new.numbers.items c.parts_of.ensures.building in
-    Leaves-building _ _ _ _ _ next
+returns-in_err-parts-clause-leaves c = Leaves-goes _ _ _ _ _ _ c.grow.ensures.goes
 
-pub returns-in_err-after-clause-leaves : goal.returns-in_err-after-clause-leaves
-returns-in_err-after-clause-leaves c =
-    let grown = Building-goes c.args.g.now c.args.a.now c.args.b.now c.args.shelf.now c.loop-growths.shelf c.requires.tables.is_shelf
-    c.loop-growths.numbers.items
-    c.loop-growths.invariant.building
-    c.grow.new.shelf c.grow.new.numbers.items c.grow.ensures.goes.building in
-    let next = Building-goes c.args.g.now c.args.a.now c.args.b.now c.args.shelf.now c.grow.new.shelf c.requires.tables.is_shelf c.grow.new.numbers.items grown
-    c.parts_of.new.shelf c.parts_of.new.numbers.items c.parts_of.ensures.building in
-    Leaves-building _ _ _ _ _ next
-
-pub returns-then-are_same-clause-leaves : goal.returns-then-are_same-clause-leaves
-returns-then-are_same-clause-leaves c =
-    let grown = Building-goes c.args.g.now c.args.a.now c.args.b.now c.args.shelf.now c.loop-growths.shelf c.requires.tables.is_shelf
-    c.loop-growths.numbers.items
-    c.loop-growths.invariant.building
-    c.grow.new.shelf c.grow.new.numbers.items c.grow.ensures.goes.building in
-    let next = Building-goes c.args.g.now c.args.a.now c.args.b.now c.args.shelf.now c.grow.new.shelf c.requires.tables.is_shelf c.grow.new.numbers.items grown
-    c.parts_of.new.shelf c.parts_of.new.numbers.items c.parts_of.ensures.building in
-    Leaves-building _ _ _ _ _ next
+pub returns-clause-leaves : goal.returns-clause-leaves
+returns-clause-leaves c = Leaves-goes _ _ _ _ _ _ c.grow.ensures.goes
 
 pub returns-in_err-grow-clause-limit : goal.returns-in_err-grow-clause-limit
 returns-in_err-grow-clause-limit c = λ stopped.
-    Exceeded-goes c.args.g.now c.args.a.now c.args.b.now c.args.shelf.now c.loop-growths.shelf c.requires.tables.is_shelf c.loop-growths.numbers.items
-    c.loop-growths.invariant.building c.grow.new.numbers.items
+    let AB = pairs (automaton_of c.args.shelf.now c.args.a.now) (automaton_of c.args.shelf.now c.args.b.now) in
+    Exceeded-start c.args.g.now AB c.args.shelf.now c.in_ok-numbers.numbers.items c.grow.new.numbers.items c.requires.tables.is_shelf
+    (c.in_ok-numbers.ensures.spaces c.args.shelf.now)
     (c.grow.ensures.limit (let why = rw stopped at c.from_residual-in_err-grow.ensures in c.in_err-grow.was ∙ (let is = why.1 in cc)))
 
-pub returns-in_err-parts-clause-limit : goal.returns-in_err-parts-clause-limit
-returns-in_err-parts-clause-limit c = λ stopped.
-    let grown = Building-goes c.args.g.now c.args.a.now c.args.b.now c.args.shelf.now c.loop-growths.shelf c.requires.tables.is_shelf
-    c.loop-growths.numbers.items
-    c.loop-growths.invariant.building
-    c.grow.new.shelf c.grow.new.numbers.items c.grow.ensures.goes.building in
-    Exceeded-goes c.args.g.now c.args.a.now c.args.b.now c.args.shelf.now c.grow.new.shelf c.requires.tables.is_shelf c.grow.new.numbers.items grown
-    c.parts_of.new.numbers.items (λ start building given completes.
-    inl (c.parts_of.ensures.limit (let why = rw stopped at c.from_residual-in_err-parts.ensures in c.in_err-parts.was ∙ (let is = why.1 in cc)) start
-    building given completes))
-
-pub returns-then-are_same-clause-settled : goal.returns-then-are_same-clause-settled
-returns-then-are_same-clause-settled c =
+pub returns-clause-settled : goal.returns-clause-settled
+returns-clause-settled c =
     let AB = pairs (automaton_of c.args.shelf.now c.args.a.now) (automaton_of c.args.shelf.now c.args.b.now) in
-    let grown = Building-goes c.args.g.now c.args.a.now c.args.b.now c.args.shelf.now c.loop-growths.shelf c.requires.tables.is_shelf
-    c.loop-growths.numbers.items
-    c.loop-growths.invariant.building
-    c.grow.new.shelf c.grow.new.numbers.items c.grow.ensures.goes.building in
-    let next = Building-goes c.args.g.now c.args.a.now c.args.b.now c.args.shelf.now c.grow.new.shelf c.requires.tables.is_shelf c.grow.new.numbers.items grown
-    c.parts_of.new.shelf c.parts_of.new.numbers.items c.parts_of.ensures.building in
-    let counted = sym c.in_ok-before.ensures ∙ sym (c.are_same.ensures.0 c.if-are_same.true) ∙ c.in_ok-after.ensures in
-    let is : c.grow.new.numbers.items ≡ c.parts_of.new.numbers.items = same-spaces c.grow.new.numbers.items c.parts_of.new.numbers.items
-    c.parts_of.ensures.extends counted in
-    let parts = to-first c.args.g.now c.args.a.now c.args.b.now c.args.shelf.now c.grow.new.shelf c.requires.tables.is_shelf c.grow.new.numbers.items grown
-    (λ (AB : Automaton (ℕ × ℕ)). AreParts c.args.g.now AB c.args.a.now c.args.b.now c.grow.new.numbers.items c.grow.new.numbers.items
-    c.parts_of.new.shelf c.parts_of.new.roots c.in_ok-parts.parts) (c.in_ok-parts.ensures.parts (sym is)) in
+    let e = c.in_ok-grow.ensures in
     record {
-      building = next;
+      building = c.grow.ensures.goes.building c.args.shelf.now
+          (Building-start c.args.g.now AB c.args.shelf.now c.in_ok-numbers.numbers.items c.requires.tables.is_shelf
+          (c.in_ok-numbers.ensures.spaces c.args.shelf.now));
       many = c.in_ok-parts.ensures.many;
-      parts = subst (λ (ss : List (List (ℕ × ℕ))). AreParts c.args.g.now AB c.args.a.now c.args.b.now ss ss c.parts_of.new.shelf
-          c.parts_of.new.roots c.in_ok-parts.parts) is parts;
-      valid = c.in_ok-parts.ensures.valid;
+      parts = c.in_ok-parts.ensures.parts AB c.args.a.now c.args.b.now c.grow.new.shelf
+          (AreDone-goes c.args.g.now c.args.shelf.now c.args.a.now c.args.b.now c.requires.first c.requires.second c.grow.new.numbers.items
+          c.grow.new.shelf c.grow.new.growths.items e.spaces e.grown e.all);
     }
-
-pub loop-growths-preserved : goal.loop-growths-preserved
-loop-growths-preserved c =
-    let grown = Building-goes c.args.g.now c.args.a.now c.args.b.now c.args.shelf.now c.loop-growths.shelf c.requires.tables.is_shelf
-    c.loop-growths.numbers.items
-    c.loop-growths.invariant.building
-    c.grow.new.shelf c.grow.new.numbers.items c.grow.ensures.goes.building in
-    let next = Building-goes c.args.g.now c.args.a.now c.args.b.now c.args.shelf.now c.grow.new.shelf c.requires.tables.is_shelf c.grow.new.numbers.items grown
-    c.parts_of.new.shelf c.parts_of.new.numbers.items c.parts_of.ensures.building in
-    record {
-      building = next;
-      fits = c.in_ok-parts.ensures.fits;
-      seen = to-first c.args.g.now c.args.a.now c.args.b.now c.args.shelf.now c.loop-growths.shelf c.requires.tables.is_shelf c.loop-growths.numbers.items
-          c.loop-growths.invariant.building (λ (AB : Automaton (ℕ × ℕ)). HaveSeen c.args.g.now AB c.args.a.now c.args.b.now c.grow.new.growths.items)
-          c.in_ok-grow.ensures.seen;
-    }
-
-pub loop-growths-smaller : goal.loop-growths-smaller
-loop-growths-smaller c =
-    let most = room-most c.loop-growths.numbers.items c.grow.new.numbers.items c.grow.ensures.goes.extends in
-    let grown = Building-goes c.args.g.now c.args.a.now c.args.b.now c.args.shelf.now c.loop-growths.shelf c.requires.tables.is_shelf
-    c.loop-growths.numbers.items
-    c.loop-growths.invariant.building
-    c.grow.new.shelf c.grow.new.numbers.items c.grow.ensures.goes.building in
-    let next = Building-goes c.args.g.now c.args.a.now c.args.b.now c.args.shelf.now c.grow.new.shelf c.requires.tables.is_shelf c.grow.new.numbers.items grown
-    c.parts_of.new.shelf c.parts_of.new.numbers.items c.parts_of.ensures.building in
-    let less = room-less c.grow.new.numbers.items c.parts_of.new.numbers.items c.parts_of.ensures.extends
-    (λ s pairs is. ((next.are.each s pairs is).numbers).few) (λ same. false≢true (sym c.if-are_same.false ∙ c.are_same.ensures.1
-    (c.in_ok-after.ensures ∙ same ∙ sym c.in_ok-before.ensures))) in
-    omega arith
