@@ -4,7 +4,7 @@ use Rattle.bdd_nodes.specs.declared.node_ref.NodeRef.{NodeRef}
 use Rattle.bdd_nodes.specs.Shelf.{count_of}
 use Rattle.bdd_nodes.specs.Changes.{is_valid}
 use Rattle.gta_refine.specs.Numbered.{AreNumbered}
-use Rattle.gta_refine.proofs.NumbersLemmas.{AreNumbered-push, count-if}
+use Rattle.gta_refine.proofs.NumbersLemmas.{AreNumbered-push, numbered-at, count-if}
 use Rattle.gta_refine.proofs.numbers.number_nodes.Goals as goal
 
 pub loop-index-preserved : goal.loop-index-preserved
@@ -31,6 +31,7 @@ loop-index-preserved c =
       many = let l = c.in_ok-push.ensures.len in let m = inv.many in omega arith;
       numbered = subst (λ (rs : List NodeRef). AreNumbered new classes nodes rs) (sym c.in_ok-push.ensures.items)
           (AreNumbered-push old new classes nodes c.requires.ordered refs index inside c.reference-low.result c.reference-high.result made
-          inv.numbered many (c.reference-low.ensures old nodes numbered_low) (c.reference-high.ensures old nodes numbered_high)
-          e.shelf e.kept e.valid e.value e.later);
+          inv.numbered many
+          (c.reference-low.ensures old nodes (numbered-at old classes nodes c.deref.result.now numbered_low _))
+          (c.reference-high.ensures old nodes (numbered-at old classes nodes c.deref-in-loop-index.result.now numbered_high _)) e.shelf e.kept e.valid e.value e.later);
     }
