@@ -59,13 +59,12 @@ Stands-states shelf classes nodes ordered index inside low high stands_low stand
     (stands_high.states label) (stands_low.states label)
     ∙ ap (slice_index classes) (sym (function_in-inner nodes index label inside (ordered.low index inside).before (ordered.high index inside).before))
 
--- one more node
-module _ (old new : Contents) (classes : List ℕ) (nodes : List ListedNode) (ordered : AreOrdered nodes) (refs : List NodeRef)
-    (index : ℕ) (inside : index < length nodes) (low high made : NodeRef)
-    (numbered : AreNumbered old classes nodes refs) (many : length refs ≡ index)
+-- what is made of what stands for the sides stands for the node
+module _ (old new : Contents) (classes : List ℕ) (nodes : List ListedNode) (ordered : AreOrdered nodes) (index : ℕ) (inside : index < length nodes)
+    (low high made : NodeRef)
     (stands_low : Stands old classes nodes (node_at nodes index).low low)
     (stands_high : Stands old classes nodes (node_at nodes index).high high)
-    (is_shelf : IsShelf new) (keeps : Keeps old new) (valid : IsValid new made)
+    (valid : IsValid new made)
     (states : (label : Label) → state_of new made label ≡ choice_of old (node_at nodes index).track low high label)
     (later : AsksFrom new (node_at nodes index).track made) where
   pub Stands-made : Stands new classes nodes (Inner index) made
@@ -75,8 +74,10 @@ module _ (old new : Contents) (classes : List ℕ) (nodes : List ListedNode) (or
     asks = λ t above. AsksFrom-weaker new made t (node_at nodes index).track above later;
   }
 
-  pub AreNumbered-push : AreNumbered new classes nodes (refs ++ made ∷ [])
-  AreNumbered-push = record {
+  -- one more node
+  pub AreNumbered-push : (refs : List NodeRef) → AreNumbered old classes nodes refs → length refs ≡ index → Keeps old new →
+      AreNumbered new classes nodes (refs ++ made ∷ [])
+  AreNumbered-push refs numbered many keeps = record {
     each = λ i r there. elim (slice_get-push refs made r i there) [
       | inl before ↦ Stands-kept old new classes nodes (Inner i) r keeps (numbered.each i r before)
       | inr last ↦
@@ -141,7 +142,8 @@ pub TellApart-all : (shelf : Contents) (classes : List ℕ) (listing : Listing) 
 TellApart-all shelf classes listing refs numbers is_shelf numbered stand =
     let at : (i : ℕ) → i < length listing.roots → Stands shelf classes listing.nodes (slice_index_or listing.roots i (Leaf 0)) (number_at numbers i) =
     λ i i_in. let m = stand.many in stand.each shelf listing.nodes i (slice_index_or listing.roots i (Leaf 0)) (number_at numbers i)
-    (numbered-at shelf classes listing.nodes refs numbered (slice_index_or listing.roots i (Leaf 0))) (slice_get-get_or listing.roots i (Leaf 0) i_in) (slice_get-get_or numbers i (record { word = 0 }) (omega arith)) in
+    (numbered-at shelf classes listing.nodes refs numbered (slice_index_or listing.roots i (Leaf 0)))
+    (slice_get-get_or listing.roots i (Leaf 0) i_in) (slice_get-get_or numbers i (record { word = 0 }) (omega arith)) in
     record {
       many = stand.many;
       same = λ i j i_in j_in same label.

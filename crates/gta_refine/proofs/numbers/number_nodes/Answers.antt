@@ -30,8 +30,8 @@ loop-index-preserved c =
       limit = e.limit ∙ inv.limit;
       many = let l = c.in_ok-push.ensures.len in let m = inv.many in omega arith;
       numbered = subst (λ (rs : List NodeRef). AreNumbered new classes nodes rs) (sym c.in_ok-push.ensures.items)
-          (AreNumbered-push old new classes nodes c.requires.ordered refs index inside c.reference-low.result c.reference-high.result made
-          inv.numbered many
+          (AreNumbered-push old new classes nodes c.requires.ordered index inside c.reference-low.result c.reference-high.result made
           (c.reference-low.ensures old nodes (numbered-at old classes nodes c.deref.result.now numbered_low _))
-          (c.reference-high.ensures old nodes (numbered-at old classes nodes c.deref-in-loop-index.result.now numbered_high _)) e.shelf e.kept e.valid e.value e.later);
+          (c.reference-high.ensures old nodes (numbered-at old classes nodes c.deref-in-loop-index.result.now numbered_high _))
+          e.valid e.value e.later refs inv.numbered many e.kept);
     }
