@@ -1,5 +1,5 @@
 -- A space that is looked at splits the classes of a child.
-use Rattle.std.proofs.Common.{◌≡◌, ◌≢◌, ℕ, zero, suc, ◌<◌, ◌≤◌, Bool, true, false, List, [], ◌∷◌, length, Some, inl, inr}
+use Rattle.std.proofs.Common.{◌≡◌, ◌≢◌, ℕ, zero, suc, ◌<◌, ◌≤◌, Bool, true, false, List, [], ◌∷◌, length, Option, Some, None, inl, inr}
 use Rattle.std.proofs.Common.{sym, ◌∙◌, ap, refl, subst, arith}
 use Rattle.std.specs.Prelude.{slice_get, slice_index, slice_set}
 use Rattle.std.proofs.lemmas.List.{get_or-set_same}
@@ -14,10 +14,11 @@ use Rattle.gta_reach.specs.declared.sides.Side.TheVariants.{Left, Right}
 use Rattle.gta_reach.specs.Form.{guide_of, automaton_of, IsForm}
 use Rattle.gta_reach.specs.Sides.{kinds_in, HasRootAt, child_at, child_of, opposite}
 use Rattle.gta_classes.specs.declared.part.SpaceClasses.{SpaceClasses}
-use Rattle.gta_classes.specs.Chosen.{is_marked, IsAmong, AreChosen}
+use Rattle.gta_reach.proofs.ReachLemmas.{none-inside}
+use Rattle.gta_classes.specs.Chosen.{is_marked, IsAmong}
 use Rattle.gta_classes.proofs.ChosenLemmas.{marked-inside}
 use Rattle.gta_refine.specs.Refined.{part_at, is_reached_in, class_at, ArePartition, AreChildIds, room_in, TakesRoom}
-use Rattle.gta_refine.specs.Looked.{IsSplitAt, AreFiner, IsStableFrom, AreRows, AreSpread}
+use Rattle.gta_refine.specs.Looked.{IsSplitAt, AreFiner, IsStableFrom, AreChosenAt, AreRows, AreSpread}
 use Rattle.gta_refine.proofs.RefineLemmas.{after-part, ArePartition-split, unsplit, separated-child, there-is, child-is, child-inside}
 use Rattle.gta_refine.proofs.RefineLemmas.{child-kinds, child-classes, has_root-at, root-inside}
 use Rattle.gta_refine.proofs.RoomLemmas.{TakesRoom-part}
@@ -35,18 +36,27 @@ one-own [] few x y x_in y_in = absurd (let b = slice_get_within [] x_in.place x 
 one-own (z ∷ []) few x y x_in y_in = sym (only-one z x x_in.place x_in.there) ∙ only-one z y y_in.place y_in.there
 one-own (z ∷ w ∷ rest) few x y x_in y_in = absurd (omega arith)
 
+space-at : (form : Form) (s : ℕ) → s < length form.spaces → (space : FormSpace) × (slice_get form.spaces s ≡ Some space)
+space-at form s inside = pick (slice_get form.spaces s) refl
+  where
+    pick : (o : Option FormSpace) → slice_get form.spaces s ≡ o → (space : FormSpace) × (slice_get form.spaces s ≡ Some space)
+    pick None e = absurd (none-inside form.spaces s e inside)
+    pick (Some space) e = (space, e)
+
 -- all its states have the same steps
-pub IsStableFrom-single : (form : Form) (before now : List SpaceClasses) (s : ℕ) (space : FormSpace) → slice_get form.spaces s ≡ Some space →
-    (side : Side) (own : List ℕ) → AreChosen (kinds_in space side) (part_at before (child_at (guide_of form) side s)).reached own →
-    length own < 2 → AreFiner before now → IsStableFrom form before now s side
-IsStableFrom-single form before now s space at side own chosen few finer = record {
-  step = λ p q beside label p_reached q_reached beside_reached same.
-      let c = child_at (guide_of form) side s in
-      let one = chosen.all p (sym (reached-finer before now finer c p) ∙ p_reached) in
-      let two = chosen.all q (sym (reached-finer before now finer c q) ∙ q_reached) in
-      class-like form before s space at side p q beside label
-      (sym one.same ∙ ap (slice_index (kinds_in space side)) (one-own own few one.like two.like one.among two.among) ∙ two.same);
-}
+pub IsStableFrom-single : (form : Form) (before now : List SpaceClasses) (s : ℕ) → s < length form.spaces → (side : Side) (own : List ℕ) →
+    AreChosenAt form before s side own → length own < 2 → AreFiner before now → IsStableFrom form before now s side
+IsStableFrom-single form before now s inside side own chosen_at few finer =
+    let space = space-at form s inside in
+    let chosen = chosen_at space.0 space.1 in
+    record {
+      step = λ p q beside label p_reached q_reached beside_reached same.
+          let c = child_at (guide_of form) side s in
+          let one = chosen.all p (sym (reached-finer before now finer c p) ∙ p_reached) in
+          let two = chosen.all q (sym (reached-finer before now finer c q) ∙ q_reached) in
+          class-like form before s space.0 space.1 side p q beside label
+          (sym one.same ∙ ap (slice_index (kinds_in space.0 side)) (one-own own few one.like two.like one.among two.among) ∙ two.same);
+    }
 
 -- ---- a side with more
 

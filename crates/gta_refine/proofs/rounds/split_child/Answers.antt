@@ -117,3 +117,11 @@ returns-clause-room c =
     (subst (λ (k : ℕ). IsSplitAt now k c.deref.result.now new more) c.child.ensures c.in_ok-is_more.ensures) in
     TakesRoom-split c.args.form.now c.requires.form c.args.spaces.now.items c.requires.partition c.args.s c.space-space.result.now c.space-space.ensures c.args.side
     ids new more split
+
+pub returns-then-len-lt2-clause-finer : goal.returns-then-len-lt2-clause-finer
+returns-then-len-lt2-clause-finer c = AreFiner-same c.args.spaces.now.items
+
+pub returns-then-len-lt2-clause-stable : goal.returns-then-len-lt2-clause-stable
+returns-then-len-lt2-clause-stable c = λ before rows finer.
+    IsStableFrom-single c.args.form.now before c.args.spaces.now.items c.args.s c.requires.space c.args.side c.args.own.now rows.chosen_own
+    (let t = c.if-len-lt2.true in let e = c.len.ensures in omega arith) finer
