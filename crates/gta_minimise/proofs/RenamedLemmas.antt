@@ -7,21 +7,21 @@ use Rattle.bdd_nodes.specs.declared.node_ref.NodeRef.{NodeRef}
 use Rattle.bdd_nodes.specs.Shelf.{Contents}
 use Rattle.bdd_list.specs.declared.listing.Listed.{Listed}
 use Rattle.bdd_list.specs.declared.listing.Listed.TheVariants.{Leaf}
+use Rattle.bdd_list.specs.declared.listing.ListedNode.{ListedNode}
 use Rattle.bdd_list.specs.Listing.{rank, IsIn}
-use Rattle.gta_reach.specs.declared.form.FormSpace.{FormSpace}
 use Rattle.gta_refine.specs.Numbered.{StandFor}
 use Rattle.gta_minimise.specs.Marked.{AreMarked}
 use Rattle.gta_minimise.specs.Renamed.{IsRenamed, IsUnderRenamed, AreMade, AreRenamed}
 use Rattle.gta_minimise.proofs.MadeLemmas.{IsNumbered-marked}
 
-module _ (classes : List ℕ) (space : FormSpace) (roots : List Listed) (marks : List Bool) (marked : AreMarked space roots marks) where
+module _ (classes : List ℕ) (nodes : List ListedNode) (roots : List Listed) (marks : List Bool) (marked : AreMarked nodes roots marks) where
   -- the references for the roots
-  pub AreRenamed-made : (new : Contents) (refs references : List NodeRef) → AreMade new classes space.listing.nodes marks refs →
-      length refs ≡ length marks → StandFor classes refs roots references → AreRenamed new classes space.listing.nodes roots references
+  pub AreRenamed-made : (new : Contents) (refs references : List NodeRef) → AreMade new classes nodes marks refs →
+      length refs ≡ length marks → StandFor classes refs roots references → AreRenamed new classes nodes roots references
   AreRenamed-made new refs references made many stand =
       let stands = λ (k : ℕ) (root : Listed) (r : NodeRef) (root_at : slice_get roots k ≡ Some root) (at : slice_get references k ≡ Some r).
-      stand.each new space.listing.nodes k root r
-      (IsNumbered-marked new classes space.listing.nodes marks refs made (omega arith) root (marked.touched k root root_at)) root_at at in
+      stand.each new nodes k root r
+      (IsNumbered-marked new classes nodes marks refs made (omega arith) root (marked.touched k root root_at)) root_at at in
       record {
         many = stand.many;
         valid = λ k r at.
@@ -32,18 +32,20 @@ module _ (classes : List ℕ) (space : FormSpace) (roots : List Listed) (marks :
       }
 
   -- the function of a marked node is under that of a root
-  pub under-marked : (h : Function) → IsRenamed classes space.listing.nodes marks h → IsUnderRenamed classes space.listing.nodes roots h
+  under-marked : (h : Function) → IsRenamed classes nodes marks h → IsUnderRenamed classes nodes roots h
   under-marked h renamed =
       let found = marked.under renamed.index renamed.marked in
       record {
         place = found.place;
         root = found.root;
         there = found.there;
-        below = found.under.below;
-        fixed = found.under.fixed;
-        states = λ label. renamed.states label ∙ ap (slice_index classes) (found.under.states label);
+        below = (found.under).below;
+        fixed = (found.under).fixed;
+        states = λ label. renamed.states label ∙ ap (slice_index classes) ((found.under).states label);
       }
 
-  pub inside-made : (refs : List NodeRef) → length refs ≡ length marks → All (IsIn space.listing.nodes) roots →
-      All (λ one. rank one ≤ length refs) roots
+  pub under-read : (others : List ListedNode) → others ≡ nodes → (h : Function) → IsRenamed classes others marks h → IsUnderRenamed classes nodes roots h
+  under-read others are h renamed = under-marked h (subst (λ (ns : List ListedNode). IsRenamed classes ns marks h) are renamed)
+
+  pub inside-made : (refs : List NodeRef) → length refs ≡ length marks → All (IsIn nodes) roots → All (λ one. rank one ≤ length refs) roots
   inside-made refs many inside = λ k d k_in. let i = inside k d k_in in let m = marked.many in omega arith

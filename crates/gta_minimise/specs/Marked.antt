@@ -4,10 +4,9 @@ use Rattle.labels.specs.Labels.{Function, IsUnder}
 use Rattle.bdd_list.specs.declared.listing.Listed.{Listed}
 use Rattle.bdd_list.specs.declared.listing.Listed.TheVariants.{Inner}
 use Rattle.bdd_list.specs.declared.listing.ListedNode.{ListedNode}
-use Rattle.bdd_list.specs.Listing.{function_in}
+use Rattle.bdd_list.specs.Listing.{node_at, function_in}
 use Rattle.gta_classes.specs.Chosen.{is_marked}
-use Rattle.gta_reach.specs.declared.form.FormSpace.{FormSpace}
-use Rattle.gta_reach.specs.Reached.{IsTouched, AreSidesTouched}
+use Rattle.gta_reach.specs.Reached.{IsTouched}
 
 -- the function is under that of one of these
 pub record IsUnderListed (nodes : List ListedNode) (roots : List Listed) (f : Function) : Type 0 where
@@ -26,9 +25,14 @@ pub record AreTouched (roots : List Listed) (old new : List Bool) : Type 0 where
   pub touched : (k : ℕ) (root : Listed) → slice_get roots k ≡ Some root → IsTouched new [] root
   pub sound : (i : ℕ) → is_marked new i ≡ true → (is_marked old i ≡ true) ⊎ Contains roots (Inner i)
 
+-- with each marked node its sides are marked
+pub record AreSidesMarked (nodes : List ListedNode) (marks : List Bool) : Type 0 where
+  pub low : (i : ℕ) → is_marked marks i ≡ true → IsTouched marks [] (node_at nodes i).low
+  pub high : (i : ℕ) → is_marked marks i ≡ true → IsTouched marks [] (node_at nodes i).high
+
 -- the nodes among these are marked, and with each node its sides; and each marked node is under one of these
-pub record AreMarked (space : FormSpace) (roots : List Listed) (marks : List Bool) : Type 0 where
-  pub many : length marks ≡ length space.listing.nodes
+pub record AreMarked (nodes : List ListedNode) (roots : List Listed) (marks : List Bool) : Type 0 where
+  pub many : length marks ≡ length nodes
   pub touched : (k : ℕ) (root : Listed) → slice_get roots k ≡ Some root → IsTouched marks [] root
-  pub sides : AreSidesTouched space marks [] 0
-  pub under : AreUnder space.listing.nodes roots marks
+  pub sides : AreSidesMarked nodes marks
+  pub under : AreUnder nodes roots marks

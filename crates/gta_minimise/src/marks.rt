@@ -1,11 +1,11 @@
 //! Which of the listed nodes are under some of what is listed.
 
-ghost use Rattle.std.specs.Prelude.{◌≡◌, ℕ, List, [], All, IfOk, length, true, vec_len};
+ghost use Rattle.std.specs.Prelude.{◌≡◌, ℕ, List, IfOk, length, true, vec_len};
 ghost use Rattle.bdd_list.specs.declared.listing.Listed.{Listed};
-ghost use Rattle.bdd_list.specs.Listing.{IsIn, AreOrdered};
+ghost use Rattle.bdd_list.specs.Listing.{AreOrdered};
 ghost use Rattle.gta_classes.specs.Chosen.{is_marked};
-ghost use Rattle.gta_reach.specs.Reached.{with_node, AreSidesTouched};
-ghost use Rattle.gta_minimise.specs.Marked.{AreUnder, AreTouched, AreMarked};
+ghost use Rattle.gta_reach.specs.Reached.{with_node};
+ghost use Rattle.gta_minimise.specs.Marked.{AreUnder, AreTouched, AreSidesMarked, AreMarked};
 
 use bdd_list::Listed;
 use gta_classes::mark;
@@ -40,7 +40,7 @@ fn mark_sides(space: &FormSpace, marks: &mut Vec<bool>)
     ensures kept { (i : ℕ) → is_marked marks.old.items i ≡ true → is_marked marks.new.items i ≡ true }
     ensures under { (roots : List Listed) → AreUnder space.now.listing.nodes roots marks.old.items
         → AreUnder space.now.listing.nodes roots marks.new.items }
-    ensures sides { AreSidesTouched space.now marks.new.items [] 0 }
+    ensures sides { AreSidesMarked space.now.listing.nodes marks.new.items }
 {
     for index in (0..marks.len()).rev() {
         if marks[index] {
@@ -58,7 +58,7 @@ pub(crate) fn mark_under(
     roots: &[Listed],
 ) -> Result<Vec<bool>, AllocError>
     requires { AreOrdered space.now.listing.nodes }
-    ensures { IfOk result (λ marks. AreMarked space.now roots.now marks.items) }
+    ensures { IfOk result (λ marks. AreMarked space.now.listing.nodes roots.now marks.items) }
 {
     let mut marks = vec![in alloc; false; space.listing.nodes.len()]?;
     mark_roots(roots, &mut marks);

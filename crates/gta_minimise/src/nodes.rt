@@ -4,11 +4,11 @@ ghost use Rattle.std.specs.Prelude.{◌≡◌, ◌<◌, ◌^◌, ◌++◌, ◌�
 ghost use Rattle.bdd_nodes.specs.Shelf.{IsShelf};
 ghost use Rattle.bdd_list.specs.Listing.{IsIn, AreOrdered};
 ghost use Rattle.gta_room.specs.Progress.{Adds, IsStuck};
-ghost use Rattle.gta_reach.specs.Reached.{AreSidesTouched};
+ghost use Rattle.gta_minimise.specs.Marked.{AreSidesMarked};
 ghost use Rattle.gta_minimise.specs.Renamed.{IsRenamed, IsUnderRenamed, AreMade, AreRenamed};
 
 use crate::marks::mark_under;
-use bdd_list::Listed;
+use bdd_list::{Listed, ListedNode};
 use bdd_nodes::{Full, NodeRef, RefList, Shelf};
 use bdd_walk::Stop;
 use gta_reach::FormSpace;
@@ -19,28 +19,28 @@ use std::alloc::Global;
 /// it.
 fn make_node(
     shelf: &mut Shelf,
-    space: &FormSpace,
+    nodes: &[ListedNode],
     marks: &[bool],
     index: usize,
     classes: &[u32],
     refs: &[NodeRef],
 ) -> Result<NodeRef, Full>
     requires shelf { IsShelf shelf.old }
-    requires ordered { AreOrdered space.now.listing.nodes }
+    requires ordered { AreOrdered nodes.now }
     requires classes { All (λ class. class < 2 ^ 31) classes.now }
-    requires inside { index < length space.now.listing.nodes }
-    requires marks { length marks.now ≡ length space.now.listing.nodes }
-    requires sides { AreSidesTouched space.now marks.now [] 0 }
+    requires inside { index < length nodes.now }
+    requires marks { length marks.now ≡ length nodes.now }
+    requires sides { AreSidesMarked nodes.now marks.now }
     requires many { length refs.now ≡ index }
-    requires before { AreMade shelf.old classes.now space.now.listing.nodes marks.now refs.now }
-    ensures made { IfOk result (λ made. AreMade shelf.new classes.now space.now.listing.nodes marks.now (refs.now ++ made ∷ [])) }
-    ensures adds { Adds (IsRenamed classes.now space.now.listing.nodes marks.now) shelf.old shelf.new }
-    ensures stuck { OnErr result (IsStuck (IsRenamed classes.now space.now.listing.nodes marks.now) shelf.new) }
+    requires before { AreMade shelf.old classes.now nodes.now marks.now refs.now }
+    ensures made { IfOk result (λ made. AreMade shelf.new classes.now nodes.now marks.now (refs.now ++ made ∷ [])) }
+    ensures adds { Adds (IsRenamed classes.now nodes.now marks.now) shelf.old shelf.new }
+    ensures stuck { OnErr result (IsStuck (IsRenamed classes.now nodes.now marks.now) shelf.new) }
 {
     if !marks[index] {
         return Ok(Shelf::leaf(0));
     }
-    let node = space.listing.nodes.as_slice()[index];
+    let node = nodes[index];
     let low = reference(refs, classes, node.low);
     let high = reference(refs, classes, node.high);
     shelf.make(node.track, low, high)
@@ -50,23 +50,23 @@ fn make_node(
 fn make_nodes(
     alloc: Global,
     shelf: &mut Shelf,
-    space: &FormSpace,
+    nodes: &[ListedNode],
     marks: &[bool],
     classes: &[u32],
 ) -> Result<Vec<NodeRef>, Stop>
     requires shelf { IsShelf shelf.old }
-    requires ordered { AreOrdered space.now.listing.nodes }
+    requires ordered { AreOrdered nodes.now }
     requires classes { All (λ class. class < 2 ^ 31) classes.now }
-    requires marks { length marks.now ≡ length space.now.listing.nodes }
-    requires sides { AreSidesTouched space.now marks.now [] 0 }
+    requires marks { length marks.now ≡ length nodes.now }
+    requires sides { AreSidesMarked nodes.now marks.now }
     ensures many { IfOk result (λ refs. vec_len refs ≡ length marks.now) }
-    ensures made { IfOk result (λ refs. AreMade shelf.new classes.now space.now.listing.nodes marks.now refs.items) }
-    ensures adds { Adds (IsRenamed classes.now space.now.listing.nodes marks.now) shelf.old shelf.new }
-    ensures stuck { result ≡ Err Stop.Limit → IsStuck (IsRenamed classes.now space.now.listing.nodes marks.now) shelf.new }
+    ensures made { IfOk result (λ refs. AreMade shelf.new classes.now nodes.now marks.now refs.items) }
+    ensures adds { Adds (IsRenamed classes.now nodes.now marks.now) shelf.old shelf.new }
+    ensures stuck { result ≡ Err Stop.Limit → IsStuck (IsRenamed classes.now nodes.now marks.now) shelf.new }
 {
     let mut refs = Vec::new(alloc);
     for index in 0..marks.len() {
-        let made = make_node(shelf, space, marks, index, classes, &refs)?;
+        let made = make_node(shelf, nodes, marks, index, classes, &refs)?;
         refs.push(made)?;
     }
     Ok(refs)
@@ -89,7 +89,8 @@ pub(crate) fn rename_listed(
     ensures stuck { result ≡ Err Stop.Limit → IsStuck (IsUnderRenamed classes.now space.now.listing.nodes roots.now) shelf.new }
 {
     let marks = mark_under(alloc, space, roots)?;
-    let refs = make_nodes(alloc, shelf, space, &marks, classes)?;
+    let nodes = space.listing.nodes.as_slice();
+    let refs = make_nodes(alloc, shelf, nodes, &marks, classes)?;
     let renamed = references(alloc, &refs, classes, roots)?;
     Ok(renamed)
 }

@@ -33,3 +33,11 @@ loop-index-preserved-then-index c =
       under = λ roots start. under-node space ordered k inside marks low high low_is high_is roots marked (inv.under roots start);
       sides = sides-node space ordered k inside marks low high low_is high_is (subst (AreSidesTouched space marks []) here inv.sides);
     }
+
+pub returns-clause-sides : goal.returns-clause-sides
+returns-clause-sides c =
+    let sides = c.loop-index.invariant.sides in
+    record {
+      low = λ i marked. sides.low i (let t = c.loop-index-test.false in omega arith) marked;
+      high = λ i marked. sides.high i (let t = c.loop-index-test.false in omega arith) marked;
+    }

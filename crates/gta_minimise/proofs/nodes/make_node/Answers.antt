@@ -10,44 +10,49 @@ use Rattle.gta_minimise.specs.Renamed.{IsRenamed}
 use Rattle.gta_minimise.proofs.MadeLemmas.{IsNumbered-marked, IsRenamed-choice, AreMade-made, AreMade-skip}
 use Rattle.gta_minimise.proofs.nodes.make_node.Goals as goal
 
+pub returns-then-not-marks-index-clause-made : goal.returns-then-not-marks-index-clause-made
+returns-then-not-marks-index-clause-made c =
+    AreMade-skip c.args.shelf.now c.args.classes.now c.args.nodes.now c.args.marks.now c.args.refs.now c.leaf.result c.args.index
+    c.requires.many c.requires.before c.if-not-marks-index.true
+
+pub returns-then-not-marks-index-clause-adds : goal.returns-then-not-marks-index-clause-adds
+returns-then-not-marks-index-clause-adds c =
+    Adds-none (IsRenamed c.args.classes.now c.args.nodes.now c.args.marks.now) c.args.shelf.now c.requires.shelf
+
 pub returns-clause-made : goal.returns-clause-made
 returns-clause-made c =
-    let space = c.args.space.now in
-    let nodes = space.listing.nodes in
+    let nodes = c.args.nodes.now in
     let marks = c.args.marks.now in
     let old = c.args.shelf.now in
     let classes = c.args.classes.now in
     let refs = c.args.refs.now in
     let index = c.args.index in
     let inside = c.requires.inside in
-    let marked : is_marked marks index ≡ true = ? in
-    let same = c.as_slice.ensures in
+    let marked : is_marked marks index ≡ true = c.if-not-marks-index.false in
     let few : length refs ≤ length marks = (let m = c.requires.many in let n = c.requires.marks in omega arith) in
     let low = c.reference-low.ensures old nodes (IsNumbered-marked old classes nodes marks refs c.requires.before few (node_at nodes index).low
-    (c.requires.sides.low index (omega arith) marked)) in
+    (c.requires.sides.low index marked)) in
     let high = c.reference-high.ensures old nodes (IsNumbered-marked old classes nodes marks refs c.requires.before few (node_at nodes index).high
-    (c.requires.sides.high index (omega arith) marked)) in
+    (c.requires.sides.high index marked)) in
     let m = c.make.ensures in
     AreMade-made old classes nodes c.requires.ordered index inside c.reference-low.result c.reference-high.result low high marks
     c.make.new.self refs c.requires.before c.requires.many m.kept c.make.result m.value m.valid m.later
 
 pub returns-clause-adds : goal.returns-clause-adds
 returns-clause-adds c =
-    let space = c.args.space.now in
-    let nodes = space.listing.nodes in
+    let nodes = c.args.nodes.now in
     let marks = c.args.marks.now in
     let old = c.args.shelf.now in
     let classes = c.args.classes.now in
     let refs = c.args.refs.now in
     let index = c.args.index in
     let inside = c.requires.inside in
-    let marked : is_marked marks index ≡ true = ? in
-    let same = c.as_slice.ensures in
+    let marked : is_marked marks index ≡ true = c.if-not-marks-index.false in
     let few : length refs ≤ length marks = (let m = c.requires.many in let n = c.requires.marks in omega arith) in
     let low = c.reference-low.ensures old nodes (IsNumbered-marked old classes nodes marks refs c.requires.before few (node_at nodes index).low
-    (c.requires.sides.low index (omega arith) marked)) in
+    (c.requires.sides.low index marked)) in
     let high = c.reference-high.ensures old nodes (IsNumbered-marked old classes nodes marks refs c.requires.before few (node_at nodes index).high
-    (c.requires.sides.high index (omega arith) marked)) in
+    (c.requires.sides.high index marked)) in
     let m = c.make.ensures in
     Adds-make (IsRenamed classes nodes marks) old c.make.new.self (node_at nodes index).track c.reference-low.result c.reference-high.result c.make.result
     c.requires.shelf
@@ -56,21 +61,19 @@ returns-clause-adds c =
 
 pub returns-clause-stuck : goal.returns-clause-stuck
 returns-clause-stuck c =
-    let space = c.args.space.now in
-    let nodes = space.listing.nodes in
+    let nodes = c.args.nodes.now in
     let marks = c.args.marks.now in
     let old = c.args.shelf.now in
     let classes = c.args.classes.now in
     let refs = c.args.refs.now in
     let index = c.args.index in
     let inside = c.requires.inside in
-    let marked : is_marked marks index ≡ true = ? in
-    let same = c.as_slice.ensures in
+    let marked : is_marked marks index ≡ true = c.if-not-marks-index.false in
     let few : length refs ≤ length marks = (let m = c.requires.many in let n = c.requires.marks in omega arith) in
     let low = c.reference-low.ensures old nodes (IsNumbered-marked old classes nodes marks refs c.requires.before few (node_at nodes index).low
-    (c.requires.sides.low index (omega arith) marked)) in
+    (c.requires.sides.low index marked)) in
     let high = c.reference-high.ensures old nodes (IsNumbered-marked old classes nodes marks refs c.requires.before few (node_at nodes index).high
-    (c.requires.sides.high index (omega arith) marked)) in
+    (c.requires.sides.high index marked)) in
     let m = c.make.ensures in
     let track = (node_at nodes index).track in
     IsStuck-make (IsRenamed classes nodes marks) old c.make.new.self track c.reference-low.result c.reference-high.result c.make.result c.requires.shelf

@@ -1,5 +1,5 @@
 -- The part of a space, and its roots.
-use Rattle.std.proofs.Common.{◌≡◌, ◌<◌, ◌^◌, ℕ, List, All, length, sym, ◌∙◌, ap, subst}
+use Rattle.std.proofs.Common.{◌≡◌, ◌<◌, ◌^◌, ℕ, List, All, length, sym, ◌∙◌, ap, subst, arith}
 use Rattle.std.specs.Prelude.{slice_index}
 use Rattle.labels.specs.Labels.{Function}
 use Rattle.bdd_list.specs.declared.listing.Listed.{Listed}
@@ -8,11 +8,15 @@ use Rattle.gta_room.specs.Progress.{Adds, IsStuck}
 use Rattle.gta_room.proofs.ProgressLemmas.{Adds-none, Adds-also, IsStuck-also}
 use Rattle.gta_classes.specs.declared.part.SpaceClasses.{SpaceClasses}
 use Rattle.gta_reach.specs.Reached.{HasRoot}
+use Rattle.gta_reach.proofs.ReachLemmas.{many_spaces}
 use Rattle.gta_refine.specs.Refined.{part_at}
 use Rattle.gta_minimise.specs.Renamed.{IsUnderRenamed, AreRenamed}
 use Rattle.gta_minimise.specs.Quotient.{ArePairs, IsUnderClasses}
 use Rattle.gta_minimise.proofs.QuotientLemmas.{small-classes, pair-root, under-classes, IsQuotientSpace-made}
 use Rattle.gta_minimise.proofs.quotient.quotient_space.Goals as goal
+
+pub space-requires : goal.space-requires
+space-requires c = let m = many_spaces c.args.form.now in let i = c.requires.inside in omega arith
 
 pub roots_of_pairs-requires : goal.roots_of_pairs-requires
 roots_of_pairs-requires c =
