@@ -7,3 +7,22 @@ use Rattle.bdd_list.specs.declared.listing.Listed.{Listed}
 use Rattle.bdd_list.specs.Listing.{IsIn}
 use Rattle.gta_minimise.proofs.QuotientLemmas.{PairsBelow, PairsBelow-push}
 use Rattle.gta_minimise.proofs.quotient.roots_of_pairs.Goals as goal
+
+pub loop-index-preserved : goal.loop-index-preserved
+loop-index-preserved c =
+    let space = c.args.space.now in
+    let lefts = c.args.lefts.now in
+    let rights = c.args.rights.now in
+    let index = c.loop-index.index in
+    let few : index < length lefts * length rights = ? in
+    let some : 0 < length rights = ? in
+    let left_in : index / length rights < length lefts = (div-lt_iff_lt-mul {k = length rights} {x = index} {y = length lefts} some).1 (omega arith) in
+    let right_in : index % length rights < length rights = omega arith in
+    let has = c.requires (index / length rights) (index % length rights) left_in right_in in
+    subst (λ (xs : List Listed). PairsBelow space lefts rights xs (index + 1)) (sym c.in_ok-push.ensures.items)
+    (PairsBelow-push space lefts rights c.loop-index.roots.items index c.listed.result c.loop-index.invariant c.listed.ensures
+    (subst (λ (l : Listed). IsIn space.listing.nodes l) (sym c.listed.ensures) has.inside))
+
+pub returns-clause-inside : goal.returns-clause-inside
+returns-clause-inside c = λ k d k_in.
+    c.loop-index.invariant.inside k (slice_index_or c.loop-index.roots.items k d) (slice_get-get_or c.loop-index.roots.items k d k_in)
