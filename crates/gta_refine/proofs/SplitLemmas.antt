@@ -69,8 +69,8 @@ module _ (form : Form) (is_form : IsForm form) (now : List SpaceClasses) (partit
 
     more-classes : length (part_at now (child_of space side)).representatives ≤ length (split.part).representatives
     more-classes = elim (cases_Bool more) [
-      | inl yes ↦ let g = split.grown yes in omega arith
-      | inr no ↦ let e = ap length (split.unchanged no).1 in omega arith
+      | inl is_more ↦ let g = split.grown is_more in omega arith
+      | inr is_none ↦ let e = ap length (split.unchanged is_none).1 in omega arith
     ]
 
     pub AreFiner-split : AreFiner now new

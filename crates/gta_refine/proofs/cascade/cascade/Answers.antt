@@ -1,5 +1,5 @@
 -- One class more.
-use Rattle.std.proofs.Common.{◌≤◌, arith}
+use Rattle.std.proofs.Common.{◌≤◌, arith, rules}
 use Rattle.gta_refine.proofs.FinerLemmas.{AreFiner-same, AreFiner-both}
 use Rattle.gta_refine.proofs.cascade.cascade.Goals as goal
 
@@ -7,8 +7,8 @@ pub loop-init : goal.loop-init
 loop-init c = record {
   partition = c.requires.partition;
   finer = AreFiner-same c.args.spaces.now.items;
-  covers = ?;
-  ready = ?;
+  covers = search rules;
+  ready = search rules;
   room = omega arith;
 }
 

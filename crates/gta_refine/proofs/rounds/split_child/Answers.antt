@@ -130,10 +130,10 @@ returns-clause-room c =
     c.space-space.result.now c.space-space.ensures c.args.side
     ids new more split
 
-pub returns-then-len-lt2-clause-finer : goal.returns-then-len-lt2-clause-finer
-returns-then-len-lt2-clause-finer c = AreFiner-same c.args.spaces.now.items
+pub returns-then-own-lt2-clause-finer : goal.returns-then-own-lt2-clause-finer
+returns-then-own-lt2-clause-finer c = AreFiner-same c.args.spaces.now.items
 
-pub returns-then-len-lt2-clause-stable : goal.returns-then-len-lt2-clause-stable
-returns-then-len-lt2-clause-stable c = λ before rows finer.
+pub returns-then-own-lt2-clause-stable : goal.returns-then-own-lt2-clause-stable
+returns-then-own-lt2-clause-stable c = λ before rows finer.
     IsStableFrom-single c.args.form.now before c.args.spaces.now.items c.args.s c.requires.space c.args.side c.args.own.now rows.chosen_own
-    (let t = c.if-len-lt2.true in let e = c.len.ensures in omega arith) finer
+    c.if-own-lt2.true finer

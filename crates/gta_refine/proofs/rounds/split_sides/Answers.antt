@@ -49,15 +49,15 @@ split_child-requires-2-clause-rows c =
 
 pub returns-clause-finer : goal.returns-clause-finer
 returns-clause-finer c =
-    AreFiner-both c.args.spaces.now.items c.split_child-is_more_left.new.spaces.items c.split_child-is_more_right.new.spaces.items
+    AreFiner-both c.args.spaces.now.items c.split_child.new.spaces.items c.split_child-2.new.spaces.items
     c.in_ok-is_more_left.ensures.finer c.in_ok-is_more_right.ensures.finer
 
 pub returns-clause-stable : goal.returns-clause-stable
 returns-clause-stable c =
     let form = c.args.form.now in
     let old = c.args.spaces.now.items in
-    let mid = c.split_child-is_more_left.new.spaces.items in
-    let new = c.split_child-is_more_right.new.spaces.items in
+    let mid = c.split_child.new.spaces.items in
+    let new = c.split_child-2.new.spaces.items in
     let s = c.args.s in
     let left = c.args.left.now in
     let right = c.args.right.now in
