@@ -1,15 +1,14 @@
 -- Classes that are split: what they keep, and which spaces stay stable.
-use Rattle.std.proofs.Common.{◌≡◌, ℕ, ◌+◌, ◌<◌, ◌≤◌, Bool, true, false, List, [], ◌∷◌, ◌++◌, length, inl, inr}
-use Rattle.std.proofs.Common.{sym, ◌∙◌, ap, refl, subst, arith, length-append}
+use Rattle.std.proofs.Common.{◌≡◌, ℕ, ◌+◌, ◌<◌, ◌≤◌, Bool, true, List, [], ◌∷◌, ◌++◌, length, inl, inr}
+use Rattle.std.proofs.Common.{sym, ◌∙◌, ap, refl, subst, arith}
 use Rattle.std.specs.Prelude.{slice_index, slice_set, replicate}
 use Rattle.std.proofs.lemmas.List.{get_or-set_same, get_or-set_other, length-set, length-replicate, get_or-replicate}
 use Rattle.std.proofs.Math.ListN.{get_or-append}
 use Rattle.std.proofs.Math.Seq.{get_or-append_seam}
-use Rattle.std.proofs.lemmas.Bool.{cases_eq, cases_lt, cases_Bool}
+use Rattle.std.proofs.lemmas.Bool.{cases_eq, cases_lt}
 use Rattle.labels.specs.Labels.{Label}
 use Rattle.gta_theory.specs.Guides.{IsSpace}
 use Rattle.gta_theory.specs.Automata.{Has}
-use Rattle.gta_theory.specs.Constructions.{IsClosed}
 use Rattle.gta_theory.proofs.AutomataLemmas.{IsClosed-reached}
 use Rattle.gta_reach.specs.declared.form.Form.{Form}
 use Rattle.gta_reach.specs.declared.sides.Side.{Side}

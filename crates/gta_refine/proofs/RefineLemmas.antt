@@ -28,7 +28,7 @@ use Rattle.gta_reach.specs.Sides.{kinds_in, cell_at, HasRootAt, child_at, child_
 use Rattle.gta_classes.specs.Classes.{AreClasses, IsSplit}
 use Rattle.gta_refine.specs.Refined.{part_at, is_reached_in, class_at, representative_at, classes_in, quotient_of, ArePartition}
 use Rattle.gta_refine.specs.Refined.{bit_of}
-use Rattle.gta_refine.specs.Refined.{IsStableAt, GiveOthersAt, AreChildIds, AreSingle, IsRefined}
+use Rattle.gta_refine.specs.Refined.{IsStableAt, GiveOthersAt, AreSingle, IsRefined}
 use Rattle.gta_classes.proofs.ChosenLemmas.{marked-inside}
 use Rattle.gta_reach.proofs.ReachLemmas.{many_spaces, initial-form, left-at, right-at, few-states, accepting-form}
 

@@ -1,5 +1,5 @@
 -- A space that is looked at splits the classes of a child.
-use Rattle.std.proofs.Common.{◌≡◌, ◌≢◌, ℕ, zero, suc, ◌<◌, ◌≤◌, Bool, true, false, List, [], ◌∷◌, length, Option, Some, None, inl, inr}
+use Rattle.std.proofs.Common.{◌≡◌, ℕ, zero, suc, ◌<◌, ◌≤◌, Bool, true, false, List, [], ◌∷◌, length, Option, Some, None, inl, inr}
 use Rattle.std.proofs.Common.{sym, ◌∙◌, ap, refl, subst, arith}
 use Rattle.std.specs.Prelude.{slice_get, slice_index, slice_set}
 use Rattle.std.proofs.lemmas.List.{get_or-set_same}
@@ -10,12 +10,11 @@ use Rattle.gta_theory.specs.Minimal.{AreSeparated}
 use Rattle.gta_reach.specs.declared.form.FormSpace.{FormSpace}
 use Rattle.gta_reach.specs.declared.form.Form.{Form}
 use Rattle.gta_reach.specs.declared.sides.Side.{Side}
-use Rattle.gta_reach.specs.declared.sides.Side.TheVariants.{Left, Right}
 use Rattle.gta_reach.specs.Form.{guide_of, automaton_of, IsForm}
 use Rattle.gta_reach.specs.Sides.{kinds_in, HasRootAt, child_at, child_of, opposite}
 use Rattle.gta_classes.specs.declared.part.SpaceClasses.{SpaceClasses}
 use Rattle.gta_reach.proofs.ReachLemmas.{none-inside}
-use Rattle.gta_classes.specs.Chosen.{is_marked, IsAmong}
+use Rattle.gta_classes.specs.Chosen.{IsAmong}
 use Rattle.gta_classes.proofs.ChosenLemmas.{marked-inside}
 use Rattle.gta_refine.specs.Refined.{part_at, is_reached_in, class_at, ArePartition, AreChildIds, room_in, TakesRoom}
 use Rattle.gta_refine.specs.Looked.{IsSplitAt, AreFiner, IsStableFrom, AreChosenAt, AreRows, AreSpread}

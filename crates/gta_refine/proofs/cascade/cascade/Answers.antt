@@ -1,5 +1,5 @@
 -- One class more.
-use Rattle.std.proofs.Common.{◌≤◌, arith, rules}
+use Rattle.std.proofs.Common.{arith, rules}
 use Rattle.gta_refine.proofs.FinerLemmas.{AreFiner-same, AreFiner-both}
 use Rattle.gta_refine.proofs.cascade.cascade.Goals as goal
 

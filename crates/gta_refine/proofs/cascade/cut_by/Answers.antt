@@ -12,7 +12,6 @@ use Rattle.gta_reach.specs.Sides.{child_of}
 use Rattle.gta_reach.proofs.ReachLemmas.{many_spaces}
 use Rattle.gta_refine.proofs.RefineLemmas.{child-inside, child-classes}
 use Rattle.gta_refine.proofs.CutLemmas.{listed-reached, ArePartition-cut_at, AreFiner-cut_at, room-cut_at}
-use Rattle.gta_refine.proofs.FinerLemmas.{AreFiner-same}
 use Rattle.gta_classes.specs.Marks.{AreZero}
 use Rattle.gta_refine.proofs.cascade.cut_by.Goals as goal
 

@@ -2,7 +2,7 @@
 use Rattle.std.proofs.Common.{◌≡◌, ◌<◌, List, length, sym, ◌∙◌, ap, subst, arith}
 use Rattle.std.proofs.lemmas.List.{get_or_read}
 use Rattle.gta_classes.specs.declared.part.SpaceClasses.{SpaceClasses}
-use Rattle.gta_refine.specs.Refined.{part_at, classes_in, IsStableAt}
+use Rattle.gta_refine.specs.Refined.{part_at, classes_in}
 use Rattle.gta_refine.specs.Looked.{IsStableFrom}
 use Rattle.gta_refine.proofs.FinerLemmas.{AreLooked-set, IsStableAt-now}
 use Rattle.gta_refine.proofs.rounds.look_at.Goals as goal

@@ -1,6 +1,5 @@
 -- Refinement has come to an end.
-use Rattle.std.proofs.Common.{ℕ, List, length, sym, ◌∙◌, ap, subst, arith}
-use Rattle.std.specs.Prelude.{replicate}
+use Rattle.std.proofs.Common.{ℕ, List, sym, subst, arith}
 use Rattle.gta_classes.specs.declared.part.SpaceClasses.{SpaceClasses}
 use Rattle.gta_reach.specs.declared.sides.Side.TheVariants.{Left, Right}
 use Rattle.gta_refine.specs.Refined.{IsRefined}

@@ -1,5 +1,5 @@
 -- The part of the space that is split.
-use Rattle.std.proofs.Common.{◌≡◌, ◌<◌, ◌≤◌, ◌^◌, ℕ, [], length, refl, sym, ◌∙◌, ap, subst}
+use Rattle.std.proofs.Common.{◌≡◌, ◌<◌, ◌≤◌, ◌^◌, [], length, refl, sym, ◌∙◌, ap, subst}
 use Rattle.std.proofs.lemmas.List.{get_or_read}
 use Rattle.gta_classes.specs.declared.part.SpaceClasses.{SpaceClasses}
 use Rattle.gta_classes.specs.Classes.{AreClasses, IsSplit}

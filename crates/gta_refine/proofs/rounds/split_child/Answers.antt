@@ -1,6 +1,5 @@
 -- A child's classes are split by rows.
-use Rattle.std.proofs.Common.{◌≡◌, ◌<◌, ◌≤◌, ◌^◌, ℕ, List, length, sym, ◌∙◌, ap, subst, arith}
-use Rattle.gta_classes.specs.declared.part.SpaceClasses.{SpaceClasses}
+use Rattle.std.proofs.Common.{◌≤◌, ◌^◌, ℕ, List, length, sym, ap, subst, arith}
 use Rattle.gta_classes.specs.Classes.{AreClasses}
 use Rattle.gta_reach.specs.Sides.{child_of}
 use Rattle.gta_refine.specs.Refined.{part_at}

@@ -1,5 +1,5 @@
 -- Both children, or none where both have one row.
-use Rattle.std.proofs.Common.{◌≡◌, ◌<◌, ℕ, List, length, sym, ◌∙◌, ap, subst, arith}
+use Rattle.std.proofs.Common.{◌<◌, ℕ, List, length, sym, ap, subst, arith}
 use Rattle.gta_classes.specs.declared.part.SpaceClasses.{SpaceClasses}
 use Rattle.gta_reach.specs.declared.sides.Side.TheVariants.{Left, Right}
 use Rattle.gta_refine.specs.Looked.{AreChosenAt, IsStableFrom}
