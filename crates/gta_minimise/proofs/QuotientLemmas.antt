@@ -11,7 +11,7 @@ use Rattle.std.proofs.lemmas.List.FromFn.{length-range_with_len, get_or-range_wi
 use Rattle.std.proofs.lemmas.Option.{slice_get_within, slice_get-get_or, slice_get-map}
 use Rattle.labels.specs.Labels.{Label, Function, with_below}
 use Rattle.bdd_nodes.specs.declared.node_ref.NodeRef.{NodeRef}
-use Rattle.bdd_nodes.specs.Shelf.{Contents, IsValid, state_of}
+use Rattle.bdd_nodes.specs.Shelf.{Contents}
 use Rattle.bdd_list.specs.declared.listing.Listed.{Listed}
 use Rattle.bdd_list.specs.declared.listing.Listed.TheVariants.{Leaf}
 use Rattle.bdd_list.specs.Listing.{function_in, IsIn}

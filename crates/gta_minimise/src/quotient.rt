@@ -1,6 +1,6 @@
 //! The roots of the automaton of classes.
 
-ghost use Rattle.std.specs.Prelude.{◌≡◌, ◌<◌, ℕ, Err, All, length, slice_index, IfOk};
+ghost use Rattle.std.specs.Prelude.{◌≡◌, ◌*◌, ◌<◌, ℕ, Err, All, length, slice_index, IfOk};
 ghost use Rattle.bdd_nodes.specs.Shelf.{IsShelf};
 ghost use Rattle.bdd_list.specs.Listing.{IsIn};
 ghost use Rattle.gta_theory.specs.Guides.{IsSpace};
@@ -20,6 +20,13 @@ use gta_reach::{Form, FormSpace};
 use gta_refine::SpaceClasses;
 use std::alloc::{AllocError, Global};
 
+/// How many pairs there are of a left and a right state. Past the last number: want of memory.
+fn many_pairs(lefts: &[u32], rights: &[u32]) -> Result<usize, AllocError>
+    ensures { IfOk result (λ many. many ≡ length lefts.now * length rights.now) }
+{
+    lefts.len().checked_mul(rights.len()).ok_or(AllocError)
+}
+
 /// What is listed for each pair of states: in order of the left list, and for each of its states in order of the right one.
 fn roots_of_pairs(
     alloc: Global,
@@ -37,7 +44,7 @@ fn roots_of_pairs(
     if width == 0 {
         return Ok(roots);
     }
-    let many = lefts.len().checked_mul(width).ok_or(AllocError)?;
+    let many = many_pairs(lefts, rights)?;
     for index in 0..many {
         roots.push(space.listed(lefts[index / width], rights[index % width]))?;
     }

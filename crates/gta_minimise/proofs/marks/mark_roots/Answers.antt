@@ -1,5 +1,5 @@
 -- One root more.
-use Rattle.std.proofs.Common.{ℕ, ◌<◌, length, subst, arith}
+use Rattle.std.proofs.Common.{◌≡◌, ℕ, ◌<◌, length, subst, arith}
 use Rattle.std.specs.Prelude.{slice_index_or}
 use Rattle.std.proofs.lemmas.Option.{slice_get-get_or}
 use Rattle.bdd_list.specs.declared.listing.Listed.TheVariants.{Leaf}

@@ -1,5 +1,5 @@
 -- The roots, and then the sides.
-use Rattle.std.proofs.Common.{◌≡◌, ◌∙◌, List, Bool, length, sym, ap, subst, arith}
+use Rattle.std.proofs.Common.{◌∙◌, List, Bool, sym, subst, arith}
 use Rattle.gta_classes.specs.Marks.{IsClear}
 use Rattle.gta_classes.proofs.MarksLemmas.{IsClear-replicate}
 use Rattle.gta_minimise.proofs.MarksLemmas.{touched-kept, AreUnder-roots}

@@ -1,7 +1,5 @@
 -- The node is made, if it is marked.
-use Rattle.std.proofs.Common.{◌≡◌, ◌<◌, ◌≤◌, List, true, false, length, sym, ◌∙◌, ap, subst, arith}
-use Rattle.std.specs.Prelude.{slice_index_or}
-use Rattle.bdd_list.specs.declared.listing.ListedNode.{ListedNode}
+use Rattle.std.proofs.Common.{◌≡◌, ◌≤◌, true, length, arith}
 use Rattle.bdd_list.specs.Listing.{node_at}
 use Rattle.gta_classes.specs.Chosen.{is_marked}
 use Rattle.gta_refine.proofs.NumbersLemmas.{IsSideFor-stands}
@@ -9,6 +7,34 @@ use Rattle.gta_room.proofs.ProgressLemmas.{Adds-none, Adds-make, IsStuck-make}
 use Rattle.gta_minimise.specs.Renamed.{IsRenamed}
 use Rattle.gta_minimise.proofs.MadeLemmas.{IsNumbered-marked, IsRenamed-choice, AreMade-made, AreMade-skip}
 use Rattle.gta_minimise.proofs.nodes.make_node.Goals as goal
+
+pub make-requires-clause-low : goal.make-requires-clause-low
+make-requires-clause-low c =
+    let nodes = c.args.nodes.now in
+    let marks = c.args.marks.now in
+    let old = c.args.shelf.now in
+    let classes = c.args.classes.now in
+    let refs = c.args.refs.now in
+    let index = c.args.index in
+    let n = node_at nodes index in
+    let few : length refs ≤ length marks = (let m = c.requires.many in let n = c.requires.marks in let i = c.requires.inside in omega arith) in
+    IsSideFor-stands old classes nodes index n.track n.low c.reference-low.result (c.requires.ordered.low index c.requires.inside)
+    (c.reference-low.ensures old nodes (IsNumbered-marked old classes nodes marks refs c.requires.before few n.low
+    (c.requires.sides.low index c.if-not-marks-index.false)))
+
+pub make-requires-clause-high : goal.make-requires-clause-high
+make-requires-clause-high c =
+    let nodes = c.args.nodes.now in
+    let marks = c.args.marks.now in
+    let old = c.args.shelf.now in
+    let classes = c.args.classes.now in
+    let refs = c.args.refs.now in
+    let index = c.args.index in
+    let n = node_at nodes index in
+    let few : length refs ≤ length marks = (let m = c.requires.many in let n = c.requires.marks in let i = c.requires.inside in omega arith) in
+    IsSideFor-stands old classes nodes index n.track n.high c.reference-high.result (c.requires.ordered.high index c.requires.inside)
+    (c.reference-high.ensures old nodes (IsNumbered-marked old classes nodes marks refs c.requires.before few n.high
+    (c.requires.sides.high index c.if-not-marks-index.false)))
 
 pub returns-then-not-marks-index-clause-made : goal.returns-then-not-marks-index-clause-made
 returns-then-not-marks-index-clause-made c =

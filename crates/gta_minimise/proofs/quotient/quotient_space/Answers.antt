@@ -4,7 +4,6 @@ use Rattle.std.specs.Prelude.{slice_index}
 use Rattle.labels.specs.Labels.{Function}
 use Rattle.bdd_list.specs.declared.listing.Listed.{Listed}
 use Rattle.bdd_list.specs.Listing.{IsIn}
-use Rattle.gta_room.specs.Progress.{Adds, IsStuck}
 use Rattle.gta_room.proofs.ProgressLemmas.{Adds-none, Adds-also, IsStuck-also}
 use Rattle.gta_classes.specs.declared.part.SpaceClasses.{SpaceClasses}
 use Rattle.gta_reach.specs.Reached.{HasRoot}
@@ -15,8 +14,8 @@ use Rattle.gta_minimise.specs.Quotient.{ArePairs, IsUnderClasses}
 use Rattle.gta_minimise.proofs.QuotientLemmas.{small-classes, pair-root, under-classes, IsQuotientSpace-made}
 use Rattle.gta_minimise.proofs.quotient.quotient_space.Goals as goal
 
-pub space-requires : goal.space-requires
-space-requires c = let m = many_spaces c.args.form.now in let i = c.requires.inside in omega arith
+pub space-listed-requires : goal.space-listed-requires
+space-listed-requires c = let m = many_spaces c.args.form.now in let i = c.requires.inside in omega arith
 
 pub roots_of_pairs-requires : goal.roots_of_pairs-requires
 roots_of_pairs-requires c =
