@@ -1,4 +1,5 @@
 pub mod ReadLemmas
+pub mod MarksLemmas
 pub mod MadeLemmas
 pub mod RowsLemmas
 pub mod RenamedLemmas
@@ -7,4 +8,3 @@ pub mod LooksLemmas
 pub mod ClassesLemmas
 pub mod PartsLemmas
 pub mod MinimisedLemmas
-pub mod KeptLemmas

@@ -11,62 +11,68 @@ use Rattle.std.proofs.lemmas.List.FromFn.{length-range_with_len, get_or-range_wi
 use Rattle.std.proofs.lemmas.Option.{slice_get_within, slice_get-get_or, slice_get-map}
 use Rattle.labels.specs.Labels.{Label, Function, with_below}
 use Rattle.bdd_nodes.specs.declared.node_ref.NodeRef.{NodeRef}
-use Rattle.bdd_nodes.specs.Shelf.{Contents, IsValid, state_of}
+use Rattle.bdd_nodes.specs.Shelf.{Contents}
+use Rattle.bdd_list.specs.declared.listing.Listed.{Listed}
+use Rattle.bdd_list.specs.declared.listing.Listed.TheVariants.{Leaf}
+use Rattle.bdd_list.specs.Listing.{function_in, IsIn}
 use Rattle.gta_theory.specs.Guides.{Spaces, IsSpace, left, right}
 use Rattle.gta_theory.proofs.ListedLemmas.{slice_get-front, slice_get-last, slice_get-push}
 use Rattle.gta_core.specs.declared.part.Part.{Part}
-use Rattle.gta_core.specs.Auto.{AutoView, states_of, place_in, root_at}
-use Rattle.gta_core.proofs.AutoLemmas.{step-some}
+use Rattle.gta_core.specs.Auto.{place_in}
 use Rattle.gta_reach.specs.declared.form.FormSpace.{FormSpace}
 use Rattle.gta_reach.specs.declared.form.Form.{Form}
 use Rattle.gta_classes.specs.declared.part.SpaceClasses.{SpaceClasses}
 use Rattle.gta_reach.specs.Form as form
+use Rattle.gta_reach.specs.Form.{cell_in, root_in}
+use Rattle.gta_reach.specs.Reached.{HasRoot}
 use Rattle.gta_refine.specs.Refined.{part_at, class_at, representative_at, classes_in, quotient_of, IsRefined}
 use Rattle.gta_classes.proofs.ChosenLemmas.{marked-inside}
 use Rattle.gta_reach.proofs.ReachLemmas.{none-inside, many_spaces, initial-form, initial-at, left-at, right-at, step-at, step-same}
-use Rattle.gta_form.specs.Listed.{IsFormOf}
 use Rattle.gta_minimise.specs.Rows.{AreSharedRows}
 use Rattle.gta_minimise.specs.Renamed.{IsUnderRenamed, AreRenamed}
 use Rattle.gta_minimise.specs.Quotient.{ArePairs, IsUnderClasses, IsRootOf, IsSharedPart, IsQuotientSpace}
 use Rattle.gta_minimise.proofs.ReadLemmas.{step-quotient}
 
--- the roots of the first pairs
-pub record PairsBelow (shelf : Contents) (a : AutoView) (s : ℕ) (lefts rights : List ℕ) (roots : List NodeRef) (below : ℕ) : Type 0 where
-  pub many : length roots ≡ below
-  pub each : (k : ℕ) → k < below → slice_get roots k ≡ root_at shelf a s (slice_index lefts (k / length rights)) (slice_index rights (k % length rights))
-  pub valid : (k : ℕ) (r : NodeRef) → slice_get roots k ≡ Some r → IsValid shelf r
+-- what is listed for a pair
+abbrev pub root_of : FormSpace → List ℕ → List ℕ → ℕ → Listed
+root_of space lefts rights k = root_in space (cell_in space (slice_index lefts (k / length rights)) (slice_index rights (k % length rights)))
 
-pub PairsBelow-push : (shelf : Contents) (a : AutoView) (s : ℕ) (lefts rights : List ℕ) (roots : List NodeRef) (below : ℕ) (root : NodeRef) →
-    PairsBelow shelf a s lefts rights roots below →
-    Some root ≡ root_at shelf a s (slice_index lefts (below / length rights)) (slice_index rights (below % length rights)) → IsValid shelf root →
-    PairsBelow shelf a s lefts rights (roots ++ root ∷ []) (below + 1)
-PairsBelow-push shelf a s lefts rights roots below root so_far is valid = record {
+-- what is listed for the first pairs
+pub record PairsBelow (space : FormSpace) (lefts rights : List ℕ) (roots : List Listed) (below : ℕ) : Type 0 where
+  pub many : length roots ≡ below
+  pub each : (k : ℕ) → k < below → slice_get roots k ≡ Some (root_of space lefts rights k)
+  pub inside : (k : ℕ) (one : Listed) → slice_get roots k ≡ Some one → IsIn space.listing.nodes one
+
+pub PairsBelow-push : (space : FormSpace) (lefts rights : List ℕ) (roots : List Listed) (below : ℕ) (root : Listed) →
+    PairsBelow space lefts rights roots below → root ≡ root_of space lefts rights below → IsIn space.listing.nodes root →
+    PairsBelow space lefts rights (roots ++ root ∷ []) (below + 1)
+PairsBelow-push space lefts rights roots below root so_far is inside = record {
   many = length-append roots (root ∷ []) ∙ (let m = so_far.many in omega arith);
   each = λ k k_in. elim (cases_lt k below) [
     | inl before ↦ slice_get-front roots (root ∷ []) k (let m = so_far.many in omega arith) ∙ so_far.each k before
     | inr last ↦
         let k_is : k ≡ below = omega arith in
         let m = so_far.many in
-        ap (slice_get (roots ++ root ∷ [])) (k_is ∙ sym m) ∙ slice_get-last roots root ∙ is
-        ∙ ap (λ (j : ℕ). root_at shelf a s (slice_index lefts (j / length rights)) (slice_index rights (j % length rights))) (sym k_is)
+        ap (slice_get (roots ++ root ∷ [])) (k_is ∙ sym m) ∙ slice_get-last roots root
+        ∙ ap (λ (l : Listed). Some l) (is ∙ ap (root_of space lefts rights) (sym k_is))
   ];
-  valid = λ k r there. elim (slice_get-push roots root r k there) [
-    | inl before ↦ so_far.valid k r before
-    | inr last ↦ subst (IsValid shelf) last.1 valid
+  inside = λ k one there. elim (slice_get-push roots root one k there) [
+    | inl before ↦ so_far.inside k one before
+    | inr last ↦ subst (λ (l : Listed). IsIn space.listing.nodes l) last.1 inside
   ];
 }
 
-pub ArePairs-all : (shelf : Contents) (a : AutoView) (s : ℕ) (lefts rights : List ℕ) (roots : List NodeRef) → 0 < length rights →
-    PairsBelow shelf a s lefts rights roots (length lefts * length rights) → ArePairs shelf a s lefts rights roots
-ArePairs-all shelf a s lefts rights roots some all = record {
+pub ArePairs-all : (space : FormSpace) (lefts rights : List ℕ) (roots : List Listed) → 0 < length rights →
+    PairsBelow space lefts rights roots (length lefts * length rights) → ArePairs space lefts rights roots
+ArePairs-all space lefts rights roots some all = record {
   many = all.many;
   left_inside = λ k k_in. (div-lt_iff_lt-mul {k = length rights} {x = k} {y = length lefts} some).1 (let m = all.many in omega arith);
   right_inside = λ k k_in. omega arith;
   each = λ k k_in. all.each k (let m = all.many in omega arith);
 }
 
-pub ArePairs-none : (shelf : Contents) (a : AutoView) (s : ℕ) (lefts rights : List ℕ) → length rights ≡ 0 → ArePairs shelf a s lefts rights []
-ArePairs-none shelf a s lefts rights none = record {
+pub ArePairs-none : (space : FormSpace) (lefts rights : List ℕ) → length rights ≡ 0 → ArePairs space lefts rights []
+ArePairs-none space lefts rights none = record {
   many = sym (ap (λ (n : ℕ). length lefts * n) none ∙ (omega arith));
   left_inside = λ k k_in. absurd (omega arith);
   right_inside = λ k k_in. absurd (omega arith);
@@ -184,9 +190,8 @@ range-get n i inside =
     slice_get-get_or (range_with_len 0 n) i 0 (omega (arith, length-range_with_len 0 n)) ∙ ap (λ (k : ℕ). let o : Option ℕ = Some k in o) e
 
 -- the part of a space by the rows that classes share
-module _ (old : Contents) (a : AutoView) (f : Form) (classes : List SpaceClasses) (is_form : form.IsForm f)
-    (same : IsFormOf (form.guide_of f) old a f) (refined : IsRefined f classes) (s : ℕ) (inside : IsSpace (form.guide_of f) s)
-    (space : FormSpace) (at : slice_get f.spaces s ≡ Some space) (part : Part) (lefts rights : List ℕ)
+module _ (f : Form) (classes : List SpaceClasses) (is_form : form.IsForm f) (refined : IsRefined f classes) (s : ℕ)
+    (inside : IsSpace (form.guide_of f) s) (space : FormSpace) (at : slice_get f.spaces s ≡ Some space) (part : Part) (lefts rights : List ℕ)
     (shared : IsSharedPart f classes s part lefts rights) where
   g : Spaces
   g = form.guide_of f
@@ -204,21 +209,35 @@ module _ (old : Contents) (a : AutoView) (f : Form) (classes : List SpaceClasses
   columns-are = shared.columns space at
 
   -- the state of a row is one
-  pub left-below : (i : ℕ) → i < length lefts → slice_index lefts i < states_of a (left (form.guide_of f) s)
+  left-below : (i : ℕ) → i < length lefts → slice_index lefts i < form.states_of f (left (form.guide_of f) s)
   left-below i i_in =
       let found = rows-are.has i i_in in
       let b = representative-below f classes is_form refined (left (form.guide_of f) s) found.class left-in found.inside in
-      let e = same.states (left (form.guide_of f) s) left-in in
       let is = found.state in
       omega arith
 
-  pub right-below : (j : ℕ) → j < length rights → slice_index rights j < states_of a (right (form.guide_of f) s)
+  right-below : (j : ℕ) → j < length rights → slice_index rights j < form.states_of f (right (form.guide_of f) s)
   right-below j j_in =
       let found = columns-are.has j j_in in
       let b = representative-below f classes is_form refined (right (form.guide_of f) s) found.class right-in found.inside in
-      let e = same.states (right (form.guide_of f) s) right-in in
       let is = found.state in
       omega arith
+
+  -- the states of a row and a column have a root
+  pub pair-root : (i j : ℕ) → i < length lefts → j < length rights → HasRoot space (slice_index lefts i) (slice_index rights j)
+  pair-root i j i_in j_in =
+      let l = slice_index lefts i in
+      let r = slice_index rights j in
+      let fs = is_form.spaces s space at in
+      let l_in = left-below i i_in in
+      let r_in = right-below j j_in in
+      record {
+        row = let e = fs.rows in omega arith;
+        column = let e = fs.columns in omega arith;
+        cell = fs.cells l r l_in r_in;
+        root = fs.roots l r l_in r_in;
+        inside = fs.inside (cell_in space l r) (fs.roots l r l_in r_in);
+      }
 
   -- where the root of a pair of classes stands
   place : ℕ → ℕ → ℕ
@@ -264,27 +283,24 @@ module _ (old : Contents) (a : AutoView) (f : Form) (classes : List SpaceClasses
         ∙ ap (λ (o : Option ℕ). option_map (λ cell. part.first + cell) o) cell-is
         ∙ ap (λ (n : ℕ). Some (n + place x y)) shared.first ∙ ap (λ (n : ℕ). Some n) (omega arith)
 
-  module _ (roots : List NodeRef) (pairs : ArePairs old a s lefts rights roots) where
+  module _ (roots : List Listed) (pairs : ArePairs space lefts rights roots) where
     -- the states of a row and a column step as the representatives of classes that have these
-    step-root : (x y : ℕ) (root : NodeRef) (label : Label) → x < classes_in classes (left (form.guide_of f) s) →
+    step-root : (x y : ℕ) (root : Listed) (label : Label) → x < classes_in classes (left (form.guide_of f) s) →
         y < classes_in classes (right (form.guide_of f) s) → slice_get roots (place x y) ≡ Some root →
-        class_at classes s (state_of old root label) ≡ (quotient_of f classes).step s x y label
+        class_at classes s (function_in space.listing.nodes root label) ≡ (quotient_of f classes).step s x y label
     step-root x y root label x_in y_in there =
-        let i = slice_index part.rows x in
-        let j = slice_index part.columns y in
-        let l = slice_index lefts i in
-        let r = slice_index rights j in
+        let l = slice_index lefts (slice_index part.rows x) in
+        let r = slice_index rights (slice_index part.columns y) in
         let p = representative_at classes (left (form.guide_of f) s) x in
         let q = representative_at classes (right (form.guide_of f) s) y in
         let k_in = slice_get_within roots (place x y) root there in
-        let here : root_at old a s l r ≡ Some root =
-        ap (λ (n : ℕ). root_at old a s (slice_index lefts n) (slice_index rights j)) (sym (place-row x y x_in y_in))
-        ∙ ap (λ (n : ℕ). root_at old a s (slice_index lefts (place x y / length rights)) (slice_index rights n)) (sym (place-column x y x_in y_in))
-        ∙ sym (pairs.each (place x y) k_in) ∙ there in
-        let l_in = left-below i (row-in x y x_in y_in) in
-        let r_in = right-below j (column-in x y x_in y_in) in
-        ap (class_at classes s) (step-some old a s l r label root here ∙ sym (same.steps s l r label inside l_in r_in)
-        ∙ step-at f s space at l r label ∙ step-same space l p r q label (rows-are.same x x_in) (columns-are.same y y_in)
+        let same_root : Some root ≡ Some (root_of space lefts rights (place x y)) = sym there ∙ pairs.each (place x y) k_in in
+        let is : root ≡ root_of space lefts rights (place x y) = cc in
+        let here : root_of space lefts rights (place x y) ≡ root_in space (cell_in space l r) =
+        ap (λ (n : ℕ). root_in space (cell_in space (slice_index lefts n) (slice_index rights (place x y % length rights)))) (place-row x y x_in y_in)
+        ∙ ap (λ (n : ℕ). root_in space (cell_in space l (slice_index rights n))) (place-column x y x_in y_in) in
+        ap (λ (one : Listed). class_at classes s (function_in space.listing.nodes one label)) (is ∙ here)
+        ∙ ap (class_at classes s) (step-same space l p r q label (rows-are.same x x_in) (columns-are.same y y_in)
         ∙ sym (step-at f s space at p q label))
         ∙ sym (step-quotient f classes s x y label)
 
@@ -311,7 +327,7 @@ module _ (old : Contents) (a : AutoView) (f : Form) (classes : List SpaceClasses
         }
 
     -- what is under a root is under the table of the automaton of classes
-    pub under-classes : (h : Function) → IsUnderRenamed old (part_at classes s).classes roots h → IsUnderClasses f classes h
+    pub under-classes : (h : Function) → IsUnderRenamed (part_at classes s).classes space.listing.nodes roots h → IsUnderClasses f classes h
     under-classes h under =
         let pair = pair-of under.place (slice_get_within roots under.place under.root under.there) in
         let there : slice_get roots (place pair.left_class pair.right_class) ≡ Some under.root = ap (slice_get roots) pair.is ∙ under.there in
@@ -330,7 +346,8 @@ module _ (old : Contents) (a : AutoView) (f : Form) (classes : List SpaceClasses
           };
         }
 
-    module _ (new : Contents) (made : List NodeRef) (renamed : AreRenamed old new (part_at classes s).classes roots made) where
+    module _ (new : Contents) (made : List NodeRef)
+        (renamed : AreRenamed new (part_at classes s).classes space.listing.nodes roots made) where
       root-of : (x y : ℕ) → x < classes_in classes (left (form.guide_of f) s) → y < classes_in classes (right (form.guide_of f) s) →
           IsRootOf new f classes s x y part made
       root-of x y x_in y_in =
@@ -341,8 +358,8 @@ module _ (old : Contents) (a : AutoView) (f : Form) (classes : List SpaceClasses
           let n = renamed.many in
           let root : NodeRef = slice_index_or made k none in
           let there = slice_get-get_or made k none (omega arith) in
-          let was : NodeRef = slice_index_or roots k none in
-          let was_there = slice_get-get_or roots k none (omega arith) in
+          let was : Listed = slice_index_or roots k (Leaf 0) in
+          let was_there = slice_get-get_or roots k (Leaf 0) (omega arith) in
           record {
             place = k;
             at = place-is x y x_in y_in;

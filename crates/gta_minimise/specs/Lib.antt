@@ -1,3 +1,4 @@
+pub mod Marked
 pub mod Renamed
 pub mod Rows
 pub mod Quotient

@@ -8,22 +8,23 @@ use Rattle.gta_theory.specs.Guides.{left, right}
 use Rattle.gta_theory.specs.Numbered.{Below}
 use Rattle.gta_room.specs.Progress.{IsUnderSomewhere}
 use Rattle.gta_core.specs.declared.part.Part.{Part}
-use Rattle.gta_core.specs.Auto.{AutoView, place_in, root_at}
+use Rattle.bdd_list.specs.declared.listing.Listed.{Listed}
+use Rattle.gta_core.specs.Auto.{place_in}
 use Rattle.gta_core.specs.Placing.{HasPlace}
 use Rattle.gta_reach.specs.declared.form.FormSpace.{FormSpace}
 use Rattle.gta_reach.specs.declared.form.Form.{Form}
 use Rattle.gta_classes.specs.declared.part.SpaceClasses.{SpaceClasses}
-use Rattle.gta_reach.specs.Form.{guide_of, automaton_of}
+use Rattle.gta_reach.specs.Form.{cell_in, root_in, guide_of, automaton_of}
 use Rattle.gta_refine.specs.Refined.{part_at, classes_in, class_at, quotient_of}
 use Rattle.gta_minimise.specs.Rows.{AreSharedRows}
 
--- the roots of all pairs, in order of the left states, and for each in order of the right ones
-pub record ArePairs (shelf : Contents) (a : AutoView) (s : ℕ) (lefts rights : List ℕ) (roots : List NodeRef) : Type 0 where
+-- what is listed for all pairs, in order of the left states, and for each in order of the right ones
+pub record ArePairs (space : FormSpace) (lefts rights : List ℕ) (roots : List Listed) : Type 0 where
   pub many : length roots ≡ length lefts * length rights
   pub left_inside : (k : ℕ) → k < length roots → k / length rights < length lefts
   pub right_inside : (k : ℕ) → k < length roots → k % length rights < length rights
   pub each : (k : ℕ) → k < length roots →
-      slice_get roots k ≡ root_at shelf a s (slice_index lefts (k / length rights)) (slice_index rights (k % length rights))
+      slice_get roots k ≡ Some (root_in space (cell_in space (slice_index lefts (k / length rights)) (slice_index rights (k % length rights))))
 
 -- the function is under the table of the automaton of classes
 abbrev pub IsUnderClasses : Form → List SpaceClasses → Function → Type 0

@@ -10,9 +10,8 @@ ghost use Rattle.gta_theory.specs.Numbered.{Below};
 ghost use Rattle.gta_core.specs.Auto.{states_of, automaton_of, IsAuto};
 ghost use Rattle.gta_core.specs.Changes.{RegistersTable};
 ghost use Rattle.gta_room.specs.Progress.{Adds, IsStuck};
-ghost use Rattle.gta_reach.specs.Form.{IsForm};
+ghost use Rattle.gta_reach.specs.Form.{guide_of, IsForm};
 ghost use Rattle.gta_refine.specs.Refined.{IsRefined};
-ghost use Rattle.gta_form.specs.Listed.{IsFormOf};
 ghost use Rattle.gta_minimise.specs.Quotient.{IsUnderClasses, IsPutBehind, AreQuotientSpaces};
 ghost use Rattle.gta_minimise.specs.Minimised.{HasMinimisedSize};
 
@@ -57,7 +56,7 @@ pub fn minimise(alloc: Global, g: &Guide, a: &Auto, shelf: &mut Shelf) -> Result
     let _ = shelf.count();
     let form = form_of(alloc, g, a, shelf)?;
     let classes = refine(alloc, &form)?;
-    let table = quotient_spaces(alloc, g, a, &form, classes.as_slice(), shelf)?;
+    let table = quotient_spaces(alloc, g, &form, classes.as_slice(), shelf)?;
     let representatives = classes.as_slice()[0].representatives.as_slice();
     let accepting = accepting_classes(alloc, form.accepting.as_slice(), representatives)?;
     let minimal = Auto::from_parts(table.parts, accepting, table.roots, shelf)?;
@@ -75,15 +74,13 @@ struct QuotientTable {
 fn quotient_spaces(
     alloc: Global,
     g: &Guide,
-    a: &Auto,
     form: &Form,
     classes: &[SpaceClasses],
     shelf: &mut Shelf,
 ) -> Result<QuotientTable, Stop>
     requires shelf { IsShelf shelf.old }
-    requires auto { IsAuto g.now shelf.old a.now }
     requires form { IsForm form.now }
-    requires same { IsFormOf g.now shelf.old a.now form.now }
+    requires guide { guide_of form.now ≡ g.now }
     requires refined { IsRefined form.now classes.now }
     ensures parts { IfOk result (λ made. AreQuotientSpaces shelf.new form.now classes.now made.parts made.roots (length g.now)) }
     ensures adds { Adds (IsUnderClasses form.now classes.now) shelf.old shelf.new }
@@ -92,7 +89,7 @@ fn quotient_spaces(
     let mut parts = Items::new(alloc);
     let mut roots = RefList::new(alloc);
     for space in 0..g.spaces() {
-        let made = quotient_space(alloc, a, form, space, classes, shelf)?;
+        let made = quotient_space(alloc, form, space, classes, shelf)?;
         let part = put_behind(made, &mut roots)?;
         parts.push(part)?;
     }

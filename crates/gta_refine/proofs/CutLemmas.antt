@@ -1,5 +1,5 @@
 -- The classes of one space are cut in two, and what that keeps of all spaces.
-use Rattle.std.proofs.Common.{◌≡◌, ◌≢◌, ℕ, ◌+◌, ◌<◌, ◌≤◌, true, List, [], ◌∷◌, ◌++◌, length, inl, inr}
+use Rattle.std.proofs.Common.{◌≡◌, ◌≢◌, ℕ, ◌<◌, ◌≤◌, true, List, [], ◌∷◌, ◌++◌, length, inl, inr}
 use Rattle.std.proofs.Common.{sym, ◌∙◌, ap, subst, arith}
 use Rattle.std.specs.Prelude.{Contains, slice_get, slice_index, slice_set, Some}
 use Rattle.std.proofs.lemmas.List.{get_or-set_same, get_or-set_other, length-set}
@@ -16,11 +16,13 @@ use Rattle.gta_reach.specs.Form.{guide_of, automaton_of, IsForm}
 use Rattle.gta_classes.specs.Classes.{AreClasses}
 use Rattle.gta_classes.specs.Cuts.{IsIndicator, Covers, IsCut}
 use Rattle.gta_refine.specs.Cuts.{IsCutAt, ClassLists, AllCover}
+use Rattle.gta_refine.specs.Looked.{AreFiner}
 use Rattle.gta_refine.specs.Givers.{AreGivers}
 use Rattle.gta_refine.specs.Refined.{part_at, is_reached_in, ArePartition, GiveOthersAt, room_in}
 use Rattle.gta_reach.specs.Sides.{child_at, child_of}
 use Rattle.gta_refine.proofs.RoomLemmas.{room-set, room_of}
-use Rattle.gta_refine.proofs.RefineLemmas.{ArePartition-split, after-part, separated-child, there-is, child-is, child-inside}
+use Rattle.gta_refine.proofs.RefineLemmas.{ArePartition-split, after-part, separated-child, there-is, child-is, child-inside, child-classes}
+use Rattle.gta_refine.proofs.FinerLemmas.{AreFiner-set}
 
 -- the lists of another space stay
 pub AllCover-set : (spaces : List SpaceClasses) (lists : List ClassLists) (c : ℕ) (part : SpaceClasses) (own : ClassLists) → AllCover spaces lists →
@@ -122,6 +124,11 @@ module _ (form : Form) (is_form : IsForm form) (spaces : List SpaceClasses) (par
         (ArePartition-cut form is_form spaces partition s (there-is form is_form spaces partition s space at) side class (child_of space side)
         (child-is form is_form spaces partition s space at side) (child-inside form is_form spaces partition s space at side) listed cut.part givers
         cut.reached cut.classes cut.cut)
+
+    pub AreFiner-cut_at : AreFiner spaces new
+    AreFiner-cut_at = subst (λ (xs : List SpaceClasses). AreFiner spaces xs) (sym cut.is)
+        (AreFiner-set spaces (child_of space side) (child-inside form is_form spaces partition s space at side) cut.part (cut.cut).ids cut.reached
+        (child-classes form is_form spaces partition s space at side) cut.classes cut.more (cut.cut).split)
 
     pub room-cut_at : room_in new ≤ room_in spaces
     room-cut_at =

@@ -54,6 +54,29 @@ map-at f h xs same x among = walk xs same among.place among.there
     walk (y ∷ ys) e zero there = let is : y ≡ x = cc in let first : f y ≡ h y = cc in sym (ap f is) ∙ first ∙ ap h is
     walk (y ∷ ys) e (suc k) there = let rest : map f ys ≡ map h ys = cc in walk ys rest k there
 
+-- the classes that steps give
+module _ (form : Form) (spaces : List SpaceClasses) (s : ℕ) (space : FormSpace) (at : slice_get form.spaces s ≡ Some space) where
+  step-cell : (side : Side) (p b : ℕ) (label : Label) → step_by (automaton_of form) s side p b label
+      ≡ function_of space.listing (root_in space (cell_at space side p b)) label
+  step-cell Left p b label = step-at form s space at p b label
+  step-cell Right p b label = step-at form s space at b p label
+
+  pub class-cell : (side : Side) (p b : ℕ) (label : Label) → class_at spaces s (step_by (automaton_of form) s side p b label)
+      ≡ class_given space.listing (part_at spaces s).classes (cell_at space side p b) label
+  class-cell side p b label = ap (class_at spaces s) (step-cell side p b label)
+
+  cell-own : (side : Side) (p q b : ℕ) → slice_index (kinds_in space side) p ≡ slice_index (kinds_in space side) q →
+      cell_at space side p b ≡ cell_at space side q b
+  cell-own Left p q b same = cell-same space p q b b same refl
+  cell-own Right p q b same = cell-same space b b p q refl same
+
+  -- states of one kind have the same steps
+  pub class-like : (side : Side) (p q b : ℕ) (label : Label) → slice_index (kinds_in space side) p ≡ slice_index (kinds_in space side) q →
+      class_at spaces s (step_by (automaton_of form) s side p b label) ≡ class_at spaces s (step_by (automaton_of form) s side q b label)
+  class-like side p q b label same = class-cell side p b label
+      ∙ ap (λ (i : ℕ). class_given space.listing (part_at spaces s).classes i label) (cell-own side p q b same)
+      ∙ sym (class-cell side q b label)
+
 -- the numbers of the states of a child
 module _ (form : Form) (spaces : List SpaceClasses) (s : ℕ) (space : FormSpace) (at : slice_get form.spaces s ≡ Some space)
     (side : Side) (numbers : List NodeRef) (own beside kind_ids ids : List ℕ)
@@ -69,15 +92,6 @@ module _ (form : Form) (spaces : List SpaceClasses) (s : ℕ) (space : FormSpace
   id-at q reached = ap (λ (xs : List ℕ). slice_index xs q) spread
       ∙ get_or-map (slice_index kind_ids) (kinds_in space side) q 0 0
       (let i = marked-inside (part_at spaces (child_at (guide_of form) side s)).reached q reached in let m = many in omega arith)
-
-  step-cell : (side' : Side) (p b : ℕ) (label : Label) → step_by (automaton_of form) s side' p b label
-      ≡ function_of space.listing (root_in space (cell_at space side' p b)) label
-  step-cell Left p b label = step-at form s space at p b label
-  step-cell Right p b label = step-at form s space at b p label
-
-  class-cell : (p b : ℕ) (label : Label) → class_at spaces s (step_by (automaton_of form) s side p b label)
-      ≡ class_given space.listing (part_at spaces s).classes (cell_at space side p b) label
-  class-cell p b label = ap (class_at spaces s) (step-cell side p b label)
 
   -- a state beside is as good as a chosen one
   cell-beside : (side' : Side) (p b c : ℕ) → slice_index (kinds_in space (opposite side')) b ≡ slice_index (kinds_in space (opposite side')) c →
@@ -123,11 +137,11 @@ module _ (form : Form) (spaces : List SpaceClasses) (s : ℕ) (space : FormSpace
         let c_reached = chosen_beside.each c like.among in
         let numbers_same = map-at (λ other. number_at numbers (cell_at space side p other)) (λ other. number_at numbers (cell_at space side q other))
         beside (rows-same p q p_reached q_reached same) c like.among in
-        class-cell p b label
+        class-cell form spaces s space at side p b label
         ∙ ap (λ (i : ℕ). class_given space.listing (part_at spaces s).classes i label) (cell-beside side p b c (sym like.same))
         ∙ tell.same (cell_at space side p c) (cell_at space side q c) (roots p c p_reached c_reached) (roots q c q_reached c_reached) numbers_same label
         ∙ ap (λ (i : ℕ). class_given space.listing (part_at spaces s).classes i label) (cell-beside side q c b like.same)
-        ∙ sym (class-cell q b label);
+        ∙ sym (class-cell form spaces s space at side q b label);
     apart = λ p q p_reached q_reached differ.
         elim (cases_map (λ other. number_at numbers (cell_at space side p other)) (λ other. number_at numbers (cell_at space side q other)) beside) [
           | inl same ↦ absurd (differ (ids-same p q p_reached q_reached same))
@@ -140,7 +154,8 @@ module _ (form : Form) (spaces : List SpaceClasses) (s : ℕ) (space : FormSpace
                 beside = b;
                 label = give.label;
                 reached = b_reached;
-                differs = λ e. give.differs (sym (class-cell p b give.label) ∙ e ∙ class-cell q b give.label);
+                differs = λ e. give.differs (sym (class-cell form spaces s space at side p b give.label) ∙ e
+                    ∙ class-cell form spaces s space at side q b give.label);
               }
         ];
   }

@@ -3,6 +3,9 @@ pub mod RowsLemmas
 pub mod IdsLemmas
 pub mod RefineLemmas
 pub mod RoomLemmas
+pub mod PigeonLemmas
+pub mod FinerLemmas
+pub mod SplitLemmas
 pub mod ClimbLemmas
 pub mod UsesLemmas
 pub mod CutLemmas

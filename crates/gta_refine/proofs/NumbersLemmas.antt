@@ -18,7 +18,7 @@ use Rattle.bdd_list.specs.declared.listing.ListedNode.{ListedNode}
 use Rattle.bdd_list.specs.declared.listing.Listing.{Listing}
 use Rattle.bdd_list.specs.Listing.{function_in, node_at, IsSide, AreOrdered}
 use Rattle.bdd_list.proofs.ListingLemmas.{function_in-leaf, function_in-inner}
-use Rattle.gta_refine.specs.Numbered.{Stands, AreNumbered, StandFor, number_at, TellApart}
+use Rattle.gta_refine.specs.Numbered.{Stands, AreNumbered, IsNumbered, StandFor, number_at, TellApart}
 
 pub Stands-leaf : (shelf : Contents) (classes : List ℕ) (nodes : List ListedNode) (state class : ℕ) (r : NodeRef) →
     IsLeaf r class → class ≡ slice_index classes state → Stands shelf classes nodes (Leaf state) r
@@ -59,24 +59,25 @@ Stands-states shelf classes nodes ordered index inside low high stands_low stand
     (stands_high.states label) (stands_low.states label)
     ∙ ap (slice_index classes) (sym (function_in-inner nodes index label inside (ordered.low index inside).before (ordered.high index inside).before))
 
--- one more node
-module _ (old new : Contents) (classes : List ℕ) (nodes : List ListedNode) (ordered : AreOrdered nodes) (refs : List NodeRef)
-    (index : ℕ) (inside : index < length nodes) (low high made : NodeRef)
-    (numbered : AreNumbered old classes nodes refs) (many : length refs ≡ index)
+-- what is made of what stands for the sides stands for the node
+module _ (old new : Contents) (classes : List ℕ) (nodes : List ListedNode) (ordered : AreOrdered nodes) (index : ℕ) (inside : index < length nodes)
+    (low high made : NodeRef)
     (stands_low : Stands old classes nodes (node_at nodes index).low low)
     (stands_high : Stands old classes nodes (node_at nodes index).high high)
-    (is_shelf : IsShelf new) (keeps : Keeps old new) (valid : IsValid new made)
+    (valid : IsValid new made)
     (states : (label : Label) → state_of new made label ≡ choice_of old (node_at nodes index).track low high label)
     (later : AsksFrom new (node_at nodes index).track made) where
-  Stands-made : Stands new classes nodes (Inner index) made
+  pub Stands-made : Stands new classes nodes (Inner index) made
   Stands-made = record {
     valid = valid;
     states = λ label. states label ∙ Stands-states old classes nodes ordered index inside low high stands_low stands_high label;
     asks = λ t above. AsksFrom-weaker new made t (node_at nodes index).track above later;
   }
 
-  pub AreNumbered-push : AreNumbered new classes nodes (refs ++ made ∷ [])
-  AreNumbered-push = record {
+  -- one more node
+  pub AreNumbered-push : (refs : List NodeRef) → AreNumbered old classes nodes refs → length refs ≡ index → Keeps old new →
+      AreNumbered new classes nodes (refs ++ made ∷ [])
+  AreNumbered-push refs numbered many keeps = record {
     each = λ i r there. elim (slice_get-push refs made r i there) [
       | inl before ↦ Stands-kept old new classes nodes (Inner i) r keeps (numbered.each i r before)
       | inr last ↦
@@ -89,6 +90,12 @@ module _ (old new : Contents) (classes : List ℕ) (nodes : List ListedNode) (or
 pub AreNumbered-none : (shelf : Contents) (classes : List ℕ) (nodes : List ListedNode) → AreNumbered shelf classes nodes []
 AreNumbered-none shelf classes nodes = record { each = λ i r there. absurd cc }
 
+pub numbered-at : (shelf : Contents) (classes : List ℕ) (nodes : List ListedNode) (refs : List NodeRef) → AreNumbered shelf classes nodes refs →
+    (listed : Listed) → IsNumbered shelf classes nodes refs listed
+numbered-at shelf classes nodes refs numbered listed = record {
+  each = λ i r is there. subst (λ (l : Listed). Stands shelf classes nodes l r) (sym is) (numbered.each i r there);
+}
+
 pub count-if : (b : Bool) (count index new : ℕ) → count ≤ index → new ≡ (if b then count else count + 1) → new ≤ index + 1
 count-if true count index new below is = omega arith
 count-if false count index new below is = omega arith
@@ -96,32 +103,32 @@ count-if false count index new below is = omega arith
 -- what is listed so far has what stands for it
 pub record StandBelow (classes : List ℕ) (refs : List NodeRef) (listed : List Listed) (references : List NodeRef) (below : ℕ) : Type 0 where
   pub many : length references ≡ below
-  pub each : (shelf : Contents) (nodes : List ListedNode) → AreNumbered shelf classes nodes refs →
-      (k : ℕ) (one : Listed) (r : NodeRef) → slice_get listed k ≡ Some one → slice_get references k ≡ Some r →
-      Stands shelf classes nodes one r
+  pub each : (shelf : Contents) (nodes : List ListedNode) (k : ℕ) (one : Listed) (r : NodeRef) → IsNumbered shelf classes nodes refs one →
+      slice_get listed k ≡ Some one → slice_get references k ≡ Some r → Stands shelf classes nodes one r
 
 pub StandBelow-none : (classes : List ℕ) (refs : List NodeRef) (listed : List Listed) → StandBelow classes refs listed [] 0
 StandBelow-none classes refs listed = record {
   many = refl;
-  each = λ shelf nodes numbered k one r one_there r_there. absurd
+  each = λ shelf nodes k one r numbered one_there r_there. absurd
       (let b = slice_get_within [] k r r_there in omega arith);
 }
 
 pub StandBelow-push : (classes : List ℕ) (refs : List NodeRef) (listed : List Listed) (references : List NodeRef) (below : ℕ) (r : NodeRef) →
     StandBelow classes refs listed references below → below < length listed →
-    ((shelf : Contents) (nodes : List ListedNode) → AreNumbered shelf classes nodes refs → Stands shelf classes nodes (slice_index_or listed below (Leaf 0))
-    r) →
+    ((shelf : Contents) (nodes : List ListedNode) → IsNumbered shelf classes nodes refs (slice_index_or listed below (Leaf 0)) →
+    Stands shelf classes nodes (slice_index_or listed below (Leaf 0)) r) →
     StandBelow classes refs listed (references ++ r ∷ []) (below + 1)
 StandBelow-push classes refs listed references below r so_far inside stands = record {
   many = length-append references (r ∷ []) ∙ (let m = so_far.many in omega arith);
-  each = λ shelf nodes numbered k one other one_there other_there. elim (slice_get-push references r other k other_there) [
-    | inl before ↦ so_far.each shelf nodes numbered k one other one_there before
+  each = λ shelf nodes k one other numbered one_there other_there. elim (slice_get-push references r other k other_there) [
+    | inl before ↦ so_far.each shelf nodes k one other numbered one_there before
     | inr last ↦
         let is : k ≡ below = last.0 ∙ so_far.many in
         let at : Some (slice_index_or listed below (Leaf 0)) ≡ Some one =
         sym (slice_get-get_or listed below (Leaf 0) inside) ∙ ap (slice_get listed) (sym is) ∙ one_there in
         let same : slice_index_or listed below (Leaf 0) ≡ one = cc in
-        subst (Stands shelf classes nodes one) last.1 (subst (λ (l : Listed). Stands shelf classes nodes l r) same (stands shelf nodes numbered))
+        subst (Stands shelf classes nodes one) last.1 (subst (λ (l : Listed). Stands shelf classes nodes l r) same
+        (stands shelf nodes (subst (IsNumbered shelf classes nodes refs) (sym same) numbered)))
   ];
 }
 
@@ -134,7 +141,8 @@ pub TellApart-all : (shelf : Contents) (classes : List ℕ) (listing : Listing) 
     AreNumbered shelf classes listing.nodes refs → StandFor classes refs listing.roots numbers → TellApart listing classes numbers
 TellApart-all shelf classes listing refs numbers is_shelf numbered stand =
     let at : (i : ℕ) → i < length listing.roots → Stands shelf classes listing.nodes (slice_index_or listing.roots i (Leaf 0)) (number_at numbers i) =
-    λ i i_in. let m = stand.many in stand.each shelf listing.nodes numbered i (slice_index_or listing.roots i (Leaf 0)) (number_at numbers i)
+    λ i i_in. let m = stand.many in stand.each shelf listing.nodes i (slice_index_or listing.roots i (Leaf 0)) (number_at numbers i)
+    (numbered-at shelf classes listing.nodes refs numbered (slice_index_or listing.roots i (Leaf 0)))
     (slice_get-get_or listing.roots i (Leaf 0) i_in) (slice_get-get_or numbers i (record { word = 0 }) (omega arith)) in
     record {
       many = stand.many;

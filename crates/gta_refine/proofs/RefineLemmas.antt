@@ -28,7 +28,7 @@ use Rattle.gta_reach.specs.Sides.{kinds_in, cell_at, HasRootAt, child_at, child_
 use Rattle.gta_classes.specs.Classes.{AreClasses, IsSplit}
 use Rattle.gta_refine.specs.Refined.{part_at, is_reached_in, class_at, representative_at, classes_in, quotient_of, ArePartition}
 use Rattle.gta_refine.specs.Refined.{bit_of}
-use Rattle.gta_refine.specs.Refined.{IsStableAt, GiveOthersAt, AreChildIds, AreSingle, IsRefined}
+use Rattle.gta_refine.specs.Refined.{IsStableAt, GiveOthersAt, AreSingle, IsRefined}
 use Rattle.gta_classes.proofs.ChosenLemmas.{marked-inside}
 use Rattle.gta_reach.proofs.ReachLemmas.{many_spaces, initial-form, left-at, right-at, few-states, accepting-form}
 
@@ -171,16 +171,6 @@ separated-child form spaces is_form partition s there Right p q p_reached q_reac
     (partition.apart s (A.step s give.beside p give.label) (A.step s give.beside q give.label) there
     (closed.step s give.beside p give.label there give.reached p_reached)
     (closed.step s give.beside q give.label there give.reached q_reached) give.differs)
-
--- where no class is split, steps go along
-pub IsStableAt-ids : (form : Form) (spaces : List SpaceClasses) (s : ℕ) (side : Side) (ids new_classes : List ℕ) → AreChildIds form spaces s side ids →
-    IsSplit (part_at spaces (child_at (guide_of form) side s)).reached ids (part_at spaces (child_at (guide_of form) side s)).classes new_classes →
-    new_classes ≡ (part_at spaces (child_at (guide_of form) side s)).classes → IsStableAt form spaces s side
-IsStableAt-ids form spaces s side ids new_classes are_ids split same = record {
-  step = λ p q beside label p_reached q_reached beside_reached same_class.
-      are_ids.same p q beside label p_reached q_reached beside_reached
-      (split.together p q p_reached q_reached (ap (λ (xs : List ℕ). slice_index xs p) same ∙ same_class ∙ ap (λ (xs : List ℕ). slice_index xs q) (sym same))).1;
-}
 
 -- one class in each of the first spaces
 pub record IsSingle (reached : List (List Bool)) (spaces : List SpaceClasses) (s : ℕ) : Type 0 where
@@ -449,39 +439,6 @@ module _ (form : Form) (is_form : IsForm form) (spaces : List SpaceClasses) (par
   pub roots-inside : All (IsIn space.listing.nodes) space.listing.roots
   roots-inside = λ k d k_in. subst (IsIn space.listing.nodes) (sym (get_or_default space.listing.roots k d (Leaf 0) k_in))
       ((is_form.spaces s space at).inside k k_in)
-
-  -- the classes of a child are split
-  module _ (side : Side) (ids : List ℕ) (part : SpaceClasses) (are_ids : AreChildIds form spaces s side ids)
-      (marks : part.reached ≡ (part_at spaces (child_of space side)).reached)
-      (split : IsSplit (part_at spaces (child_of space side)).reached ids (part_at spaces (child_of space side)).classes part.classes) where
-    after-is : after_split form spaces (child_of space side) (child-inside side) part.classes part.representatives
-        ≡ slice_set spaces (child_of space side) part
-    after-is = after-part form spaces (child_of space side) (child-inside side) part marks
-
-    pub ArePartition-child : AreClasses (part_at spaces (child_of space side)).reached part.classes part.representatives →
-        ArePartition form (slice_set spaces (child_of space side) part)
-    ArePartition-child classes = subst (ArePartition form) after-is
-        (ArePartition-split form spaces (child_of space side) (child-inside side) part.classes part.representatives ids partition classes split
-        (λ p q p_reached q_reached differ.
-        let at_p = ap (λ (k : ℕ). is_reached_in spaces k p) (child-is side) ∙ p_reached in
-        let at_q = ap (λ (k : ℕ). is_reached_in spaces k q) (child-is side) ∙ q_reached in
-        subst (λ (k : ℕ). AreSeparated (guide_of form) (automaton_of form) k p q) (child-is side)
-        (separated-child form spaces is_form partition s there-is side p q at_p at_q (are_ids.apart p q at_p at_q differ))))
-
-    pub unsplit-child : part.classes ≡ (part_at spaces (child_of space side)).classes →
-        part.representatives ≡ (part_at spaces (child_of space side)).representatives → slice_set spaces (child_of space side) part ≡ spaces
-    unsplit-child classes_same representatives_same = sym after-is
-        ∙ unsplit form spaces (child_of space side) (child-inside side) part.classes part.representatives classes_same representatives_same
-
-    pub IsStableAt-child : part.classes ≡ (part_at spaces (child_of space side)).classes →
-        part.representatives ≡ (part_at spaces (child_of space side)).representatives →
-        IsStableAt form (slice_set spaces (child_of space side) part) s side
-    IsStableAt-child classes_same representatives_same =
-        let here = sym (child-is side) in
-        subst (λ (xs : List SpaceClasses). IsStableAt form xs s side) (sym (unsplit-child classes_same representatives_same))
-        (IsStableAt-ids form spaces s side ids part.classes are_ids
-        (subst (λ (k : ℕ). IsSplit (part_at spaces k).reached ids (part_at spaces k).classes part.classes) here split)
-        (classes_same ∙ ap (λ (k : ℕ). (part_at spaces k).classes) here))
 
 -- bits say which states are accepting
 pub bits-say : (form : Form) (bits : List ℕ) (p q : ℕ) → bits ≡ map bit_of form.accepting → p < length form.accepting → q < length form.accepting →

@@ -2,6 +2,7 @@ pub mod Numbered
 pub mod Rows
 pub mod Firsts
 pub mod Refined
+pub mod Looked
 pub mod Uses
 pub mod Givers
 pub mod Cuts

@@ -19,12 +19,15 @@ pub record Stands (shelf : Contents) (classes : List ℕ) (nodes : List ListedNo
 pub record AreNumbered (shelf : Contents) (classes : List ℕ) (nodes : List ListedNode) (refs : List NodeRef) : Type 0 where
   pub each : (i : ℕ) (r : NodeRef) → slice_get refs i ≡ Some r → Stands shelf classes nodes (Inner i) r
 
--- each reference stands for what is listed, wherever the references of the nodes do
+-- where a node is listed, the reference for it stands for it
+pub record IsNumbered (shelf : Contents) (classes : List ℕ) (nodes : List ListedNode) (refs : List NodeRef) (listed : Listed) : Type 0 where
+  pub each : (i : ℕ) (r : NodeRef) → listed ≡ Inner i → slice_get refs i ≡ Some r → Stands shelf classes nodes listed r
+
+-- each reference stands for what is listed, wherever that of a listed node does
 pub record StandFor (classes : List ℕ) (refs : List NodeRef) (listed : List Listed) (references : List NodeRef) : Type 0 where
   pub many : length references ≡ length listed
-  pub each : (shelf : Contents) (nodes : List ListedNode) → AreNumbered shelf classes nodes refs →
-      (k : ℕ) (one : Listed) (r : NodeRef) → slice_get listed k ≡ Some one → slice_get references k ≡ Some r →
-      Stands shelf classes nodes one r
+  pub each : (shelf : Contents) (nodes : List ListedNode) (k : ℕ) (one : Listed) (r : NodeRef) → IsNumbered shelf classes nodes refs one →
+      slice_get listed k ≡ Some one → slice_get references k ≡ Some r → Stands shelf classes nodes one r
 
 -- the number at an index
 abbrev pub number_at : List NodeRef → ℕ → NodeRef

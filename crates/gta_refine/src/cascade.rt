@@ -7,6 +7,7 @@ ghost use Rattle.gta_classes.specs.Classes.{AreClasses};
 ghost use Rattle.gta_refine.specs.Refined.{part_at, is_reached_in, ArePartition, room_in};
 ghost use Rattle.gta_classes.specs.Cuts.{Covers};
 ghost use Rattle.gta_refine.specs.Cuts.{IsCutAt, AllCover};
+ghost use Rattle.gta_refine.specs.Looked.{AreFiner};
 ghost use Rattle.gta_refine.specs.Scratch.{IsReady};
 ghost use Rattle.gta_refine.specs.Uses.{AreUses};
 
@@ -96,6 +97,7 @@ fn cut_by(
     requires partition { ArePartition form.now spaces.old.items }
     requires covers { AllCover spaces.old.items lists.old.items }
     ensures partition { IfOk result (λ done. ArePartition form.now spaces.new.items) }
+    ensures finer { IfOk result (λ done. AreFiner spaces.old.items spaces.new.items) }
     ensures covers { IfOk result (λ done. AllCover spaces.new.items lists.new.items) }
     ensures room { IfOk result (λ done. room_in spaces.new.items ≤ room_in spaces.old.items) }
     ensures ready { IfOk result (λ done. IsReady spaces.new.items scratch.new) }
@@ -112,6 +114,54 @@ fn cut_by(
         alloc,
         &listed,
         child(space, side) as usize,
+        spaces,
+        lists,
+        scratch,
+    )?;
+    Ok(())
+}
+
+/// Cuts the classes of both children's states: those that give a state of a class, and others.
+fn cut_children(
+    alloc: Global,
+    form: &Form,
+    uses: &[SpaceUses],
+    s: usize,
+    class: u32,
+    spaces: &mut Vec<SpaceClasses>,
+    lists: &mut Vec<Vec<NumberList>>,
+    scratch: &mut Scratch,
+) -> Result<(), AllocError>
+    requires ready { IsReady spaces.old.items scratch.old }
+    requires form { IsForm form.now }
+    requires space { s < length form.now.spaces }
+    requires uses { AreUses form.now uses.now }
+    requires partition { ArePartition form.now spaces.old.items }
+    requires covers { AllCover spaces.old.items lists.old.items }
+    ensures partition { IfOk result (λ done. ArePartition form.now spaces.new.items) }
+    ensures finer { IfOk result (λ done. AreFiner spaces.old.items spaces.new.items) }
+    ensures covers { IfOk result (λ done. AllCover spaces.new.items lists.new.items) }
+    ensures room { IfOk result (λ done. room_in spaces.new.items ≤ room_in spaces.old.items) }
+    ensures ready { IfOk result (λ done. IsReady spaces.new.items scratch.new) }
+{
+    cut_by(
+        alloc,
+        form,
+        uses,
+        s,
+        Side::Left,
+        class,
+        spaces,
+        lists,
+        scratch,
+    )?;
+    cut_by(
+        alloc,
+        form,
+        uses,
+        s,
+        Side::Right,
+        class,
         spaces,
         lists,
         scratch,
@@ -154,6 +204,7 @@ pub(crate) fn cascade(
     requires uses { AreUses form.now uses.now }
     requires partition { ArePartition form.now spaces.old.items }
     ensures partition { IfOk result (λ done. ArePartition form.now spaces.new.items) }
+    ensures finer { IfOk result (λ done. AreFiner spaces.old.items spaces.new.items) }
     ensures room { IfOk result (λ done. room_in spaces.new.items ≤ room_in spaces.old.items) }
 {
     let mut lists = all_lists(alloc, form, spaces)?;
@@ -162,23 +213,11 @@ pub(crate) fn cascade(
         let Some(Next { s, class }) = next_class(done, spaces) else {
             return Ok(());
         };
-        cut_by(
+        cut_children(
             alloc,
             form,
             uses,
             s,
-            Side::Left,
-            class,
-            spaces,
-            &mut lists,
-            &mut scratch,
-        )?;
-        cut_by(
-            alloc,
-            form,
-            uses,
-            s,
-            Side::Right,
             class,
             spaces,
             &mut lists,

@@ -7,7 +7,7 @@ ghost use Rattle.std.specs.Prelude.{◌≡◌, ◌<◌, ◌≤◌, ◌^◌, ℕ,
 ghost use Rattle.bdd_nodes.specs.Shelf.{Contents, IsShelf, count_of, limit_of};
 ghost use Rattle.bdd_list.specs.declared.listing.ListedNode.{ListedNode};
 ghost use Rattle.bdd_list.specs.Listing.{rank, IsIn, AreOrdered};
-ghost use Rattle.gta_refine.specs.Numbered.{Stands, AreNumbered, StandFor, TellApart};
+ghost use Rattle.gta_refine.specs.Numbered.{Stands, AreNumbered, IsNumbered, StandFor, TellApart};
 
 use bdd_list::{Listed, ListedNode, Listing};
 use bdd_nodes::{NodeRef, RefList, Shelf};
@@ -31,7 +31,7 @@ fn class_of(classes: &[u32], state: u32) -> u32
 pub fn reference(refs: &[NodeRef], classes: &[u32], listed: Listed) -> NodeRef
     requires classes { All (λ class. class < 2 ^ 31) classes.now }
     requires inside { rank listed ≤ length refs.now }
-    ensures { (shelf : Contents) (nodes : List ListedNode) → AreNumbered shelf classes.now nodes refs.now
+    ensures { (shelf : Contents) (nodes : List ListedNode) → IsNumbered shelf classes.now nodes refs.now listed
         → Stands shelf classes.now nodes listed result }
 {
     match listed {

@@ -1,18 +1,23 @@
 //! Refinement: classes are split until steps give states of one class from states of one class.
 
-ghost use Rattle.std.specs.Prelude.{◌≡◌, ◌<◌, ◌≤◌, ◌^◌, ℕ, true, false, length, map, slice_index, IfOk};
+ghost use Rattle.std.specs.Prelude.{◌≡◌, ◌<◌, ◌≤◌, ◌^◌, ◌↔◌, ℕ, List, true, false, length, map, slice_index, IfOk, IsTrue};
 ghost use Rattle.gta_reach.specs.Form.{IsForm};
-ghost use Rattle.gta_classes.specs.Chosen.{is_marked, AreChosen};
-ghost use Rattle.gta_reach.specs.Sides.{kinds_in, opposite, child_of};
+ghost use Rattle.gta_reach.specs.declared.sides.Side.{Side};
+ghost use Rattle.gta_classes.specs.declared.part.SpaceClasses.{SpaceClasses};
+ghost use Rattle.gta_classes.specs.Chosen.{is_marked, IsAmong, AreChosen};
+ghost use Rattle.gta_reach.specs.Sides.{kinds_in, opposite, child_of, HasRootAt};
 ghost use Rattle.gta_classes.specs.Classes.{AreClasses, IsSplit};
 ghost use Rattle.gta_refine.specs.Refined.{part_at, bit_of, room_in, TakesRoom};
-ghost use Rattle.gta_refine.specs.Refined.{AreSingle, ArePartition, AreChildIds, IsStableAt, IsRefined};
+ghost use Rattle.gta_refine.specs.Refined.{AreSingle, ArePartition, IsStableAt, IsRefined};
+ghost use Rattle.gta_refine.specs.Looked.{AreChosenAt, AreNumbersAt, AreRows, WereRows, AreSpread};
+ghost use Rattle.gta_refine.specs.Looked.{IsSplitAt, AreFiner, IsStableFrom, AreStable, AreLooked};
 ghost use Rattle.gta_reach.specs.declared.sides.Side.TheVariants.{Left, Right};
 
 use crate::cascade::cascade;
 use crate::numbers::number_roots;
 use crate::rows::number_rows;
 use crate::uses::uses_of;
+use bdd_nodes::{NodeRef, RefList};
 use gta_classes::{SpaceClasses, SpaceClassesList, choose, split};
 use gta_reach::{Form, FormSpace, Side, child, kinds_of, reach};
 use plain_data::Items;
@@ -145,8 +150,8 @@ pub(crate) fn other(side: Side) -> Side
     }
 }
 
-/// A number for each state of a child: equal ones exactly where steps give the same classes beside each reached state.
-fn ids_of(
+/// Some reached states of a child of a space: one for each class of its states that have the same roots.
+fn choose_at(
     alloc: Global,
     form: &Form,
     s: usize,
@@ -156,40 +161,138 @@ fn ids_of(
     requires form { IsForm form.now }
     requires space { s < length form.now.spaces }
     requires partition { ArePartition form.now spaces.now }
-    ensures { IfOk result (λ ids. AreChildIds form.now spaces.now s side ids.items) }
+    ensures { IfOk result (λ chosen. AreChosenAt form.now spaces.now s side chosen.items) }
 {
-    let space = &form.spaces.as_slice()[s];
-    let numbers = number_roots(alloc, &space.listing, part_of(spaces, s).classes.as_slice())?;
-    let own = choose_of(alloc, space, side, spaces)?;
-    let beside = choose_of(alloc, space, other(side), spaces)?;
-    let ids = number_rows(alloc, space, side, numbers.as_slice(), &own, &beside)?;
+    let space = form.space(s);
+    let chosen = choose_of(alloc, space, side, spaces)?;
+    Ok(chosen)
+}
+
+/// A number for each root of a space: equal ones exactly where the roots give the same classes.
+fn numbers_at(
+    alloc: Global,
+    form: &Form,
+    s: usize,
+    spaces: &[SpaceClasses],
+) -> Result<RefList, AllocError>
+    requires form { IsForm form.now }
+    requires space { s < length form.now.spaces }
+    requires partition { ArePartition form.now spaces.now }
+    ensures { IfOk result (AreNumbersAt form.now spaces.now s) }
+{
+    let space = form.space(s);
+    let classes = part_of(spaces, s).classes.as_slice();
+    let numbers = number_roots(alloc, &space.listing, classes)?;
+    Ok(numbers)
+}
+
+/// A number for each state of a child: equal ones exactly where states have equal rows.
+fn ids_of(
+    alloc: Global,
+    space: &FormSpace,
+    side: Side,
+    numbers: &[NodeRef],
+    own: &[u32],
+    beside: &[u32],
+) -> Result<Vec<u32>, AllocError>
+    requires roots { (state other : ℕ) → IsAmong own.now state → IsAmong beside.now other → HasRootAt space.now side state other }
+    requires kinds { (state : ℕ) → IsAmong own.now state → state < length (kinds_in space.now side) }
+    requires many { length numbers.now ≡ length space.now.listing.roots }
+    ensures { IfOk result (λ ids. AreSpread space.now side numbers.now own.now beside.now ids.items) }
+{
+    let ids = number_rows(alloc, space, side, numbers, own, beside)?;
     let spread = spread(alloc, kinds_of(space, side), &ids)?;
     Ok(spread)
 }
 
-/// Splits the classes of a child's states by what steps give in the space, and says whether there are more classes now.
+/// Splits the classes of one of the spaces by the numbers of its states, and says whether there are more classes now.
+fn split_at(
+    alloc: Global,
+    ids: &[u32],
+    c: usize,
+    spaces: &mut Vec<SpaceClasses>,
+) -> Result<bool, AllocError>
+    requires inside { c < length spaces.old.items }
+    requires classes { AreClasses (part_at spaces.old.items c).reached (part_at spaces.old.items c).classes
+        (part_at spaces.old.items c).representatives }
+    requires many { length (part_at spaces.old.items c).reached ≤ length ids.now }
+    requires few { length (part_at spaces.old.items c).reached ≤ 2 ^ 31 }
+    ensures { IfOk result (IsSplitAt spaces.old.items c ids.now spaces.new.items) }
+{
+    let part = &mut spaces[c];
+    let is_more = split_part(alloc, ids, part)?;
+    Ok(is_more)
+}
+
+/// Splits the classes of a child's states by their rows of numbers, and says whether there are more classes now. Where all
+/// have one row, there is nothing to split.
 fn split_child(
     alloc: Global,
     form: &Form,
     s: usize,
     side: Side,
+    numbers: &[NodeRef],
+    own: &[u32],
+    beside: &[u32],
     spaces: &mut Vec<SpaceClasses>,
 ) -> Result<bool, AllocError>
     requires form { IsForm form.now }
     requires space { s < length form.now.spaces }
     requires partition { ArePartition form.now spaces.old.items }
+    requires rows { WereRows form.now spaces.old.items s side numbers.now own.now beside.now }
     ensures partition { IfOk result (λ more. ArePartition form.now spaces.new.items) }
+    ensures finer { IfOk result (λ more. AreFiner spaces.old.items spaces.new.items) }
     ensures unchanged { IfOk result (λ more. more ≡ false → spaces.new.items ≡ spaces.old.items) }
-    ensures stable { IfOk result (λ more. more ≡ false → IsStableAt form.now spaces.new.items s side) }
+    ensures stable { (before : List SpaceClasses) → AreRows form.now before s side numbers.now own.now beside.now
+        → AreFiner before spaces.old.items → IfOk result (λ more. IsStableFrom form.now before spaces.new.items s side) }
     ensures room { IfOk result (λ more. TakesRoom more (room_in spaces.old.items) (room_in spaces.new.items)) }
 {
-    let ids = ids_of(alloc, form, s, side, spaces)?;
-    let part = &mut spaces[child(&form.spaces.as_slice()[s], side) as usize];
-    let is_more = split_part(alloc, &ids, part)?;
+    if own.len() < 2 {
+        return Ok(false);
+    }
+    let space = form.space(s);
+    let ids = ids_of(alloc, space, side, numbers, own, beside)?;
+    let is_more = split_at(alloc, &ids, child(space, side) as usize, spaces)?;
     Ok(is_more)
 }
 
-/// Splits the classes of both children's states, and says whether there are more classes now.
+/// Splits the classes of both children's states by numbers of the roots, which are the same for the two, and says whether
+/// there are more classes now.
+fn split_sides(
+    alloc: Global,
+    form: &Form,
+    s: usize,
+    left: &[u32],
+    right: &[u32],
+    spaces: &mut Vec<SpaceClasses>,
+) -> Result<bool, AllocError>
+    requires form { IsForm form.now }
+    requires space { s < length form.now.spaces }
+    requires partition { ArePartition form.now spaces.old.items }
+    requires left { AreChosenAt form.now spaces.old.items s Left left.now }
+    requires right { AreChosenAt form.now spaces.old.items s Right right.now }
+    ensures partition { IfOk result (λ more. ArePartition form.now spaces.new.items) }
+    ensures finer { IfOk result (λ more. AreFiner spaces.old.items spaces.new.items) }
+    ensures unchanged { IfOk result (λ more. more ≡ false → spaces.new.items ≡ spaces.old.items) }
+    ensures stable { IfOk result (λ more. (side : Side) → IsStableFrom form.now spaces.old.items spaces.new.items s side) }
+    ensures room { IfOk result (λ more. TakesRoom more (room_in spaces.old.items) (room_in spaces.new.items)) }
+{
+    let number_list = numbers_at(alloc, form, s, spaces)?;
+    let numbers = number_list.as_slice();
+    let is_more_left = split_child(alloc, form, s, Side::Left, numbers, left, right, spaces)?;
+    let is_more_right = split_child(alloc, form, s, Side::Right, numbers, right, left, spaces)?;
+    Ok(is_more_left || is_more_right)
+}
+
+/// Whether the states of both children have one row each, at most.
+fn are_single(left: &[u32], right: &[u32]) -> bool
+    ensures { IsTrue result ↔ ((length left.now < 2) × (length right.now < 2)) }
+{
+    left.len() < 2 && right.len() < 2
+}
+
+/// Splits the classes of both children's states by what steps give in the space, and says whether there are more classes
+/// now.
 fn split_children(
     alloc: Global,
     form: &Form,
@@ -200,32 +303,67 @@ fn split_children(
     requires space { s < length form.now.spaces }
     requires partition { ArePartition form.now spaces.old.items }
     ensures partition { IfOk result (λ more. ArePartition form.now spaces.new.items) }
+    ensures finer { IfOk result (λ more. AreFiner spaces.old.items spaces.new.items) }
     ensures unchanged { IfOk result (λ more. more ≡ false → spaces.new.items ≡ spaces.old.items) }
-    ensures left { IfOk result (λ more. more ≡ false → IsStableAt form.now spaces.new.items s Left) }
-    ensures right { IfOk result (λ more. more ≡ false → IsStableAt form.now spaces.new.items s Right) }
+    ensures stable { IfOk result (λ more. (side : Side) → IsStableFrom form.now spaces.old.items spaces.new.items s side) }
     ensures room { IfOk result (λ more. TakesRoom more (room_in spaces.old.items) (room_in spaces.new.items)) }
 {
-    let is_more_left = split_child(alloc, form, s, Side::Left, spaces)?;
-    let is_more_right = split_child(alloc, form, s, Side::Right, spaces)?;
-    Ok(is_more_left || is_more_right)
+    let left = choose_at(alloc, form, s, Side::Left, spaces)?;
+    let right = choose_at(alloc, form, s, Side::Right, spaces)?;
+    if are_single(&left, &right) {
+        return Ok(false);
+    }
+    let is_more = split_sides(alloc, form, s, &left, &right, spaces)?;
+    Ok(is_more)
 }
 
-/// Splits classes in each space, and says whether there are more classes now.
+/// Splits the classes of both children's states where the space has more classes than when that was last done, and says
+/// whether there are more classes now. For each space it is kept how many classes it had then.
+fn look_at(
+    alloc: Global,
+    form: &Form,
+    s: usize,
+    looked: &mut Vec<usize>,
+    spaces: &mut Vec<SpaceClasses>,
+) -> Result<bool, AllocError>
+    requires form { IsForm form.now }
+    requires space { s < length form.now.spaces }
+    requires partition { ArePartition form.now spaces.old.items }
+    requires looked { AreLooked form.now spaces.old.items looked.old.items }
+    ensures partition { IfOk result (λ more. ArePartition form.now spaces.new.items) }
+    ensures looked { IfOk result (λ more. AreLooked form.now spaces.new.items looked.new.items) }
+    ensures unchanged { IfOk result (λ more. more ≡ false → spaces.new.items ≡ spaces.old.items) }
+    ensures stable { IfOk result (λ more. more ≡ false → (side : Side) → IsStableAt form.now spaces.new.items s side) }
+    ensures room { IfOk result (λ more. TakesRoom more (room_in spaces.old.items) (room_in spaces.new.items)) }
+{
+    let many = part_of(spaces, s).representatives.len();
+    if looked[s] == many {
+        return Ok(false);
+    }
+    let is_more = split_children(alloc, form, s, spaces)?;
+    looked[s] = many;
+    Ok(is_more)
+}
+
+/// Splits classes by each space that has more of them than when it was last looked at, and says whether there are more
+/// classes now.
 fn refine_more(
     alloc: Global,
     form: &Form,
+    looked: &mut Vec<usize>,
     spaces: &mut Vec<SpaceClasses>,
 ) -> Result<bool, AllocError>
     requires form { IsForm form.now }
     requires partition { ArePartition form.now spaces.old.items }
+    requires looked { AreLooked form.now spaces.old.items looked.old.items }
     ensures partition { IfOk result (λ more. ArePartition form.now spaces.new.items) }
-    ensures left { IfOk result (λ more. more ≡ false → (s : ℕ) → s < length form.now.spaces → IsStableAt form.now spaces.new.items s Left) }
-    ensures right { IfOk result (λ more. more ≡ false → (s : ℕ) → s < length form.now.spaces → IsStableAt form.now spaces.new.items s Right) }
+    ensures looked { IfOk result (λ more. AreLooked form.now spaces.new.items looked.new.items) }
+    ensures stable { IfOk result (λ more. more ≡ false → AreStable form.now spaces.new.items) }
     ensures room { IfOk result (λ more. TakesRoom more (room_in spaces.old.items) (room_in spaces.new.items)) }
 {
     let mut is_more = false;
     for s in 0..form.spaces.len() {
-        if split_children(alloc, form, s, spaces)? {
+        if look_at(alloc, form, s, looked, spaces)? {
             is_more = true;
         }
     }
@@ -239,20 +377,50 @@ const FEW_ROUNDS: u32 = 8;
 fn refine_some(
     alloc: Global,
     form: &Form,
+    looked: &mut Vec<usize>,
     spaces: &mut Vec<SpaceClasses>,
 ) -> Result<bool, AllocError>
     requires form { IsForm form.now }
     requires partition { ArePartition form.now spaces.old.items }
+    requires looked { AreLooked form.now spaces.old.items looked.old.items }
     ensures partition { IfOk result (λ more. ArePartition form.now spaces.new.items) }
-    ensures left { IfOk result (λ more. more ≡ false → (s : ℕ) → s < length form.now.spaces → IsStableAt form.now spaces.new.items s Left) }
-    ensures right { IfOk result (λ more. more ≡ false → (s : ℕ) → s < length form.now.spaces → IsStableAt form.now spaces.new.items s Right) }
+    ensures looked { IfOk result (λ more. AreLooked form.now spaces.new.items looked.new.items) }
+    ensures stable { IfOk result (λ more. more ≡ false → AreStable form.now spaces.new.items) }
 {
     for _ in 0..FEW_ROUNDS {
-        if !refine_more(alloc, form, spaces)? {
+        if !refine_more(alloc, form, looked, spaces)? {
             return Ok(false);
         }
     }
     Ok(true)
+}
+
+/// Splits classes until steps give states of one class from states of one class.
+fn refine_fully(
+    alloc: Global,
+    form: &Form,
+    looked: &mut Vec<usize>,
+    spaces: &mut Vec<SpaceClasses>,
+) -> Result<(), AllocError>
+    requires form { IsForm form.now }
+    requires partition { ArePartition form.now spaces.old.items }
+    requires looked { AreLooked form.now spaces.old.items looked.old.items }
+    ensures partition { IfOk result (λ done. ArePartition form.now spaces.new.items) }
+    ensures stable { IfOk result (λ done. AreStable form.now spaces.new.items) }
+{
+    if !refine_some(alloc, form, looked, spaces)? {
+        return Ok(());
+    }
+    let uses = uses_of(alloc, form, spaces)?;
+    let mut done = vec![in alloc; 0; spaces.len()]?;
+    'rounds: loop {
+        cascade(alloc, form, &uses, &mut done, spaces)?;
+        let is_more = refine_more(alloc, form, looked, spaces)?;
+        if !is_more {
+            break 'rounds;
+        }
+    }
+    Ok(())
 }
 
 /// The classes of the reached states that can't be told apart, in each space.
@@ -265,17 +433,7 @@ pub fn refine(alloc: Global, form: &Form) -> Result<SpaceClassesList, AllocError
     ensures { IfOk result (IsRefined form.now) }
 {
     let mut spaces = classes_at_first(alloc, form)?;
-    if !refine_some(alloc, form, &mut spaces)? {
-        return Ok(Items::from_vec(spaces));
-    }
-    let uses = uses_of(alloc, form, &spaces)?;
-    let mut done = vec![in alloc; 0; spaces.len()]?;
-    'rounds: loop {
-        cascade(alloc, form, &uses, &mut done, &mut spaces)?;
-        let is_more = refine_more(alloc, form, &mut spaces)?;
-        if !is_more {
-            break 'rounds;
-        }
-    }
+    let mut looked = vec![in alloc; 1; spaces.len()]?;
+    refine_fully(alloc, form, &mut looked, &mut spaces)?;
     Ok(Items::from_vec(spaces))
 }

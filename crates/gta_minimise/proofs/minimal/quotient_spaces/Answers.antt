@@ -2,35 +2,19 @@
 use Rattle.std.proofs.Common.{◌+◌, List, length, sym, ap, subst, arith}
 use Rattle.gta_theory.specs.Guides.{Spaces}
 use Rattle.gta_core.specs.declared.part.Part.{Part}
-use Rattle.gta_core.specs.Auto.{IsAuto}
 use Rattle.gta_room.proofs.ProgressLemmas.{Adds-both}
-use Rattle.gta_form.specs.Listed.{IsFormOf}
 use Rattle.gta_minimise.specs.Quotient.{IsUnderClasses, AreQuotientSpaces}
-use Rattle.gta_minimise.proofs.KeptLemmas.{IsAuto-nodes, IsFormOf-nodes}
 use Rattle.gta_minimise.proofs.PartsLemmas.{AreQuotientSpaces-push}
 use Rattle.gta_minimise.proofs.minimal.quotient_spaces.Goals as goal
 
 pub quotient_space-requires-clause-shelf : goal.quotient_space-requires-clause-shelf
 quotient_space-requires-clause-shelf c = c.loop-space.invariant.adds.now
 
-pub quotient_space-requires-clause-auto : goal.quotient_space-requires-clause-auto
-quotient_space-requires-clause-auto c =
-    let so_far = c.loop-space.invariant.adds in
-    subst (λ (h : Spaces). IsAuto h c.loop-space.shelf c.args.a.now) (sym c.requires.same.guide)
-    (IsAuto-nodes c.args.shelf.now c.loop-space.shelf c.requires.shelf so_far.keeps so_far.tables c.args.g.now c.args.a.now c.requires.auto)
-
-pub quotient_space-requires-clause-same : goal.quotient_space-requires-clause-same
-quotient_space-requires-clause-same c =
-    let so_far = c.loop-space.invariant.adds in
-    subst (λ (h : Spaces). IsFormOf h c.loop-space.shelf c.args.a.now c.args.form.now) (sym c.requires.same.guide)
-    (IsFormOf-nodes c.args.shelf.now c.loop-space.shelf c.requires.shelf so_far.keeps so_far.tables c.args.g.now c.args.a.now c.args.form.now
-    c.requires.same)
-
 pub quotient_space-requires-clause-inside : goal.quotient_space-requires-clause-inside
 quotient_space-requires-clause-inside c =
     let t = c.loop-space-test.true in
     let e = c.loop-space.auto.space-end in
-    let m = ap (λ (h : Spaces). length h) c.requires.same.guide in
+    let m = ap (λ (h : Spaces). length h) c.requires.guide in
     omega arith
 
 pub loop-space-preserved : goal.loop-space-preserved

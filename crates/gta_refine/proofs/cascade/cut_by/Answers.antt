@@ -11,7 +11,7 @@ use Rattle.gta_refine.specs.Refined.{part_at, is_reached_in}
 use Rattle.gta_reach.specs.Sides.{child_of}
 use Rattle.gta_reach.proofs.ReachLemmas.{many_spaces}
 use Rattle.gta_refine.proofs.RefineLemmas.{child-inside, child-classes}
-use Rattle.gta_refine.proofs.CutLemmas.{listed-reached, ArePartition-cut_at, room-cut_at}
+use Rattle.gta_refine.proofs.CutLemmas.{listed-reached, ArePartition-cut_at, AreFiner-cut_at, room-cut_at}
 use Rattle.gta_classes.specs.Marks.{AreZero}
 use Rattle.gta_refine.proofs.cascade.cut_by.Goals as goal
 
@@ -59,6 +59,19 @@ returns-clause-partition c =
     let new = c.cut_at.new.spaces.items in
     let listed = c.in_ok-listed.listed.items in
     ArePartition-cut_at c.args.form.now c.requires.form spaces c.requires.partition c.args.s c.space-space.result.now c.space-space.ensures c.args.side
+    c.args.class listed
+    (subst (λ (xs : List SpaceClasses). AreGivers c.args.form.now xs c.args.s c.args.side c.args.class listed)
+    c.deref.ensures.value c.in_ok-listed.ensures.givers)
+    new
+    (subst (λ (xs : List ℕ). IsCutAt spaces (child_of c.space-space.result.now c.args.side) xs new) c.deref-3.ensures.value
+    (subst (λ (k : ℕ). IsCutAt spaces k c.deref-3.result.now new) c.child.ensures c.in_ok-cut_at.ensures.cut))
+
+pub returns-clause-finer : goal.returns-clause-finer
+returns-clause-finer c =
+    let spaces = c.args.spaces.now.items in
+    let new = c.cut_at.new.spaces.items in
+    let listed = c.in_ok-listed.listed.items in
+    AreFiner-cut_at c.args.form.now c.requires.form spaces c.requires.partition c.args.s c.space-space.result.now c.space-space.ensures c.args.side
     c.args.class listed
     (subst (λ (xs : List SpaceClasses). AreGivers c.args.form.now xs c.args.s c.args.side c.args.class listed)
     c.deref.ensures.value c.in_ok-listed.ensures.givers)

@@ -20,5 +20,4 @@ returns-in-Inner c = λ shelf nodes numbered.
     let i = c.in-Inner.index in
     let inside = subst (λ (l : Listed). rank l ≤ length refs) c.in-Inner.is c.requires.inside in
     let r : NodeRef = slice_index_or refs i (record { word = 0 }) in
-    subst (λ (l : Listed). Stands shelf c.args.classes.now nodes l r) (sym c.in-Inner.is)
-    (numbered.each i r (slice_get-get_or refs i (record { word = 0 }) (omega arith)))
+    numbered.each i r c.in-Inner.is (slice_get-get_or refs i (record { word = 0 }) (omega arith))
