@@ -19,6 +19,9 @@ use ws2s_core::{FormulaId, Interner, Node, Track};
 /// How many conjuncts a context has at most.
 const MANY_CONJUNCTS: usize = 128;
 
+/// How many `Single` atoms come beside a negation at most: more have a state for each set of them.
+const MANY_SINGLES: u32 = 3;
+
 /// What holds around a formula, as one conjunction; `None` where nothing is known.
 pub(crate) type Context = Option<FormulaId>;
 
@@ -140,7 +143,7 @@ pub(crate) fn narrowed(
     Ok(made)
 }
 
-/// What of a context was conjoined inside a formula, and its `Single` atoms that are relevant to it.
+/// What of a context was conjoined inside a formula, and its `Single` atoms that are relevant to it, where these are few.
 pub(crate) fn used(
     alloc: Global,
     interner: &mut Interner,
@@ -163,7 +166,7 @@ pub(crate) fn used(
     Ok(made)
 }
 
-/// Chooses those conjuncts that were conjoined inside a formula, and `Single` atoms.
+/// Chooses those conjuncts that were conjoined inside a formula, and its `Single` atoms where they are few.
 fn choose_used(
     chosen: &mut Vec<FormulaId>,
     interner: &Interner,
@@ -174,24 +177,51 @@ fn choose_used(
 ) -> Result<(), AllocError>
     ensures { OnOk result (IsAmong chosen.old.items conjuncts.now chosen.new.items) }
 {
+    let are_few = are_singles_few(interner, facts, conjuncts, inside);
     for conjunct in conjuncts {
-        if is_used(interner, facts, uses, *conjunct, inside) {
+        if is_used(interner, facts, uses, *conjunct, inside, are_few) {
             chosen.push(*conjunct)?;
         }
     }
     Ok(())
 }
 
-/// Whether a conjunct was conjoined inside a formula, or says of one of its free tracks that it has one position.
+/// Whether a conjunct was conjoined inside a formula, or is one of few `Single` atoms.
 fn is_used(
     interner: &Interner,
     facts: &Facts,
     uses: &Uses,
     conjunct: FormulaId,
     inside: FormulaId,
+    are_few: bool,
 ) -> bool {
-    uses.has(conjunct, inside)
-        || (is_single(interner, conjunct) && facts.is_relevant(conjunct, inside))
+    uses.has(conjunct, inside) || (are_few && is_single_of(interner, facts, conjunct, inside))
+}
+
+/// Whether the conjunct says of a free track of the formula that it has one position.
+fn is_single_of(
+    interner: &Interner,
+    facts: &Facts,
+    conjunct: FormulaId,
+    id: FormulaId,
+) -> bool {
+    is_single(interner, conjunct) && facts.is_relevant(conjunct, id)
+}
+
+/// Whether few of the conjuncts say so of a free track of the formula.
+fn are_singles_few(
+    interner: &Interner,
+    facts: &Facts,
+    conjuncts: &[FormulaId],
+    id: FormulaId,
+) -> bool {
+    let mut count: u32 = 0;
+    for conjunct in conjuncts {
+        if is_single_of(interner, facts, *conjunct, id) {
+            count = count.saturating_add(1);
+        }
+    }
+    count <= MANY_SINGLES
 }
 
 /// The context of the right half of a conjunction: what is relevant to it of what the left half has, of a projection of that,

@@ -141,8 +141,8 @@ fn negated(
     Ok(made)
 }
 
-/// What a negation needs of its context. `Single` atoms always: what tells apart sets of many positions under a negation is dear
-/// (MONA's restrictions of first-order variables are the same). Where atoms alone are conjoined, those that were conjoined inside what it
+/// What a negation needs of its context. A few `Single` atoms always: to tell apart sets of many positions under a negation is dear (MONA's
+/// restrictions of first-order variables are the same). Where atoms alone are conjoined, those too that were conjoined inside what it
 /// negates, since what they ruled out there would be let in by it. Otherwise all, but for a negated atom.
 fn needed_by(
     alloc: Global,
