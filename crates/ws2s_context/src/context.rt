@@ -199,12 +199,7 @@ fn is_used(
 }
 
 /// Whether the conjunct says of a free track of the formula that it has one position.
-fn is_single_of(
-    interner: &Interner,
-    facts: &Facts,
-    conjunct: FormulaId,
-    id: FormulaId,
-) -> bool {
+fn is_single_of(interner: &Interner, facts: &Facts, conjunct: FormulaId, id: FormulaId) -> bool {
     is_single(interner, conjunct) && facts.is_relevant(conjunct, id)
 }
 
