@@ -22,38 +22,15 @@ use Rattle.gta_theory.proofs.ListedLemmas.{slice_get-front}
 use Rattle.ws2s_core.proofs.SatisfactionLemmas.{WSat-And}
 use Rattle.ws2s_theory.specs.Contexts.{SatisfiesAll}
 use Rattle.ws2s_theory.proofs.ContextsLemmas.{WSat-quantified}
+pub use Rattle.ws2s_lean.proofs.NumbersLemmas.{Extends-refl, Extends-trans, at-extends, there-extends, made-And, made-Not, made-Ex2, there-made}
+pub use Rattle.ws2s_lean.proofs.NumbersLemmas.{parts-And, parts-Not, parts-Ex2}
 use Rattle.ws2s_context.specs.Conjuncts.{IsThere, IsContext, IsConjunct, IsUnbound, IsAmong, formula_of, context_at, Implies, after, joined, formulas_at}
 
 -- what holds of all holds of each
 pub All-contains : {X : Type 0} (P : X → Type 0) (xs : List X) (x : X) → All P xs → Contains xs x → P x
 All-contains P xs x all there = subst P there.2 (all there.0 x there.1)
 
--- the same again
-pub Extends-refl : (formulas : List Formula) → Extends formulas formulas
-Extends-refl formulas = record { more = []; is = sym (append-none formulas) }
-  where
-    append-none : (xs : List Formula) → xs ++ [] ≡ xs
-    append-none [] = refl
-    append-none (x ∷ xs) = ap (λ ys. x ∷ ys) (append-none xs)
-
-pub Extends-trans : (a b c : List Formula) → Extends a b → Extends b c → Extends a c
-Extends-trans a b c first second = record {
-  more = first.more ++ second.more;
-  is = second.is ∙ ap (λ xs. xs ++ second.more) first.is ∙ append-three a first.more second.more;
-}
-  where
-    append-three : (xs ys zs : List Formula) → (xs ++ ys) ++ zs ≡ xs ++ (ys ++ zs)
-    append-three [] ys zs = refl
-    append-three (x ∷ xs) ys zs = ap (λ rest. x ∷ rest) (append-three xs ys zs)
-
 -- formulas keep their numbers
-pub at-extends : (old new : List Formula) (id : FormulaId) → Extends old new → IsThere old id → formula_of new id ≡ formula_of old id
-at-extends old new id h there = ap (λ formulas. formula_at formulas id.0) h.is ∙ ap (λ o. unwrap_or o (Root (record { 0 = 0 })))
-    (slice_get-front old h.more id.0 there)
-
-pub there-extends : (old new : List Formula) (id : FormulaId) → Extends old new → IsThere old id → IsThere new id
-there-extends old new id h there = omega (arith, ap length h.is, length-append old h.more)
-
 pub context-extends : (old new : List Formula) (c : Option FormulaId) → Extends old new → IsContext old c → context_at new c ≡ context_at old c
 context-extends old new None h there = refl
 context-extends old new (Some id) h there = ap (λ f. f ∷ []) (at-extends old new id h there)
@@ -95,31 +72,6 @@ part-below_not k f h = All-head (λ part. part < k) f.0 [] h
 
 pub part-below_ex2 : (k : ℕ) (t : Track) (f : FormulaId) → HasPartsBelow k (Node.Ex2 t f) → f.0 < k
 part-below_ex2 k t f h = All-head (λ part. part < k) f.0 [] h
-
-pub parts-And : (k : ℕ) (f g : FormulaId) → f.0 < k → g.0 < k → HasPartsBelow k (Node.And f g)
-parts-And k f g left right = All-cons (λ part. part < k) f.0 (g.0 ∷ []) left (All-cons (λ part. part < k) g.0 [] right (All-nil (λ part. part < k)))
-
-pub parts-Not : (k : ℕ) (f : FormulaId) → f.0 < k → HasPartsBelow k (Node.Not f)
-parts-Not k f below = All-cons (λ part. part < k) f.0 [] below (All-nil (λ part. part < k))
-
-pub parts-Ex2 : (k : ℕ) (t : Track) (f : FormulaId) → f.0 < k → HasPartsBelow k (Node.Ex2 t f)
-parts-Ex2 k t f below = All-cons (λ part. part < k) f.0 [] below (All-nil (λ part. part < k))
-
--- the formula of a number that was made by a form
-pub made-And : (old new : List Formula) (made f g : FormulaId) → slice_get new made.0 ≡ Some (formula_of_node old (Node.And f g)) →
-    formula_of new made ≡ And (formula_of old f) (formula_of old g)
-made-And old new made f g e = formula_at-is new made.0 _ e ∙ rolls-And (formula_of old f) (formula_of old g)
-
-pub made-Not : (old new : List Formula) (made f : FormulaId) → slice_get new made.0 ≡ Some (formula_of_node old (Node.Not f)) →
-    formula_of new made ≡ Not (formula_of old f)
-made-Not old new made f e = formula_at-is new made.0 _ e ∙ rolls-Not (formula_of old f)
-
-pub made-Ex2 : (old new : List Formula) (t : Track) (made f : FormulaId) → slice_get new made.0 ≡ Some (formula_of_node old (Node.Ex2 t f)) →
-    formula_of new made ≡ Ex2 t (formula_of old f)
-made-Ex2 old new t made f e = formula_at-is new made.0 _ e ∙ rolls-Ex2 t (formula_of old f)
-
-pub there-made : (formulas : List Formula) (k : ℕ) (f : Formula) → slice_get formulas k ≡ Some f → k < length formulas
-there-made formulas k f e = slice_get_within formulas k f e
 
 -- implications
 pub Implies-refl : (context : List Formula) → Implies context context

@@ -11,8 +11,8 @@ loop-conjunct-init c =
     record {
       kept = Extends-refl a;
       there = tt;
-      inside = subst (λ (ids : List FormulaId). All (IsThere a) ids) (sym c.as_slice.ensures.value) c.requires.there;
-      value = ap (λ (ids : List FormulaId). joined [] (formulas_at a ids)) c.as_slice.ensures.value;
+      inside = subst (λ (ids : List FormulaId). All (IsThere a) ids) (sym c.as_slice-rest.ensures.value) c.requires.there;
+      value = ap (λ (ids : List FormulaId). joined [] (formulas_at a ids)) c.as_slice-rest.ensures.value;
       facts = c.requires.facts;
     }
 
