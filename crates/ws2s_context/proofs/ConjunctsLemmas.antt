@@ -1,13 +1,13 @@
 -- On contexts by numbers.
 use Rattle.std.proofs.Common.{◌≡◌, ◌⊎◌, ℕ, ◌<◌, List, [], ◌∷◌, ◌++◌, length, option_map, slice_get, unwrap_or, All, Contains, Option, Some, None}
 use Rattle.std.proofs.Common.{refl, sym, ap, ap₂, subst, ◌∙◌, arith, inl, inr, length-append}
-use Rattle.std.proofs.Common.{Bool, true, false, ◌||◌, zero, suc, get_or}
+use Rattle.std.proofs.Common.{Bool, true, false, ◌||◌, zero, suc, get_or, Vec, Result, Ok, Err, IfOk}
+use Rattle.std.specs.declared.alloc.Global.{Global}
 use Rattle.std.proofs.lemmas.Bool.{false≢true}
 use Rattle.std.proofs.lemmas.Option.{slice_get_within}
-use Rattle.std.proofs.lemmas.List.{map-append}
 use Rattle.std.proofs.lemmas.List.Elements.{All-nil, All-cons, All-head, All-tail, All-weaker, All-push, Contains-push_cases}
 use Rattle.gta_theory.specs.Assignments.{Assignment, IsFinite}
-use Rattle.gta_theory.proofs.ListsLemmas.{All-from_contains}
+use Rattle.gta_theory.proofs.ListsLemmas.{All-from_contains, Contains-none}
 use Rattle.ws2s_core.specs.declared.track.Track.{Track}
 use Rattle.ws2s_core.specs.declared.formula.Formula.{Formula}
 use Rattle.ws2s_core.specs.declared.formula.Formula.TheVariants.{Root, And, Not, Ex2, rolls-And, rolls-Not, rolls-Ex2}
@@ -22,38 +22,15 @@ use Rattle.gta_theory.proofs.ListedLemmas.{slice_get-front}
 use Rattle.ws2s_core.proofs.SatisfactionLemmas.{WSat-And}
 use Rattle.ws2s_theory.specs.Contexts.{SatisfiesAll}
 use Rattle.ws2s_theory.proofs.ContextsLemmas.{WSat-quantified}
-use Rattle.ws2s_context.specs.Conjuncts.{IsThere, IsContext, IsConjunct, IsUnbound, IsAmong, formula_of, context_at, Implies, before, joined, formulas_at}
+pub use Rattle.ws2s_lean.proofs.NumbersLemmas.{Extends-refl, Extends-trans, at-extends, there-extends, made-And, made-Not, made-Ex2, there-made}
+pub use Rattle.ws2s_lean.proofs.NumbersLemmas.{parts-And, parts-Not, parts-Ex2}
+use Rattle.ws2s_context.specs.Conjuncts.{IsThere, IsContext, IsConjunct, IsUnbound, IsAmong, formula_of, context_at, Implies, after, joined, formulas_at}
 
 -- what holds of all holds of each
 pub All-contains : {X : Type 0} (P : X → Type 0) (xs : List X) (x : X) → All P xs → Contains xs x → P x
 All-contains P xs x all there = subst P there.2 (all there.0 x there.1)
 
--- the same again
-pub Extends-refl : (formulas : List Formula) → Extends formulas formulas
-Extends-refl formulas = record { more = []; is = sym (append-none formulas) }
-  where
-    append-none : (xs : List Formula) → xs ++ [] ≡ xs
-    append-none [] = refl
-    append-none (x ∷ xs) = ap (λ ys. x ∷ ys) (append-none xs)
-
-pub Extends-trans : (a b c : List Formula) → Extends a b → Extends b c → Extends a c
-Extends-trans a b c first second = record {
-  more = first.more ++ second.more;
-  is = second.is ∙ ap (λ xs. xs ++ second.more) first.is ∙ append-three a first.more second.more;
-}
-  where
-    append-three : (xs ys zs : List Formula) → (xs ++ ys) ++ zs ≡ xs ++ (ys ++ zs)
-    append-three [] ys zs = refl
-    append-three (x ∷ xs) ys zs = ap (λ rest. x ∷ rest) (append-three xs ys zs)
-
 -- formulas keep their numbers
-pub at-extends : (old new : List Formula) (id : FormulaId) → Extends old new → IsThere old id → formula_of new id ≡ formula_of old id
-at-extends old new id h there = ap (λ formulas. formula_at formulas id.0) h.is ∙ ap (λ o. unwrap_or o (Root (record { 0 = 0 })))
-    (slice_get-front old h.more id.0 there)
-
-pub there-extends : (old new : List Formula) (id : FormulaId) → Extends old new → IsThere old id → IsThere new id
-there-extends old new id h there = omega (arith, ap length h.is, length-append old h.more)
-
 pub context-extends : (old new : List Formula) (c : Option FormulaId) → Extends old new → IsContext old c → context_at new c ≡ context_at old c
 context-extends old new None h there = refl
 context-extends old new (Some id) h there = ap (λ f. f ∷ []) (at-extends old new id h there)
@@ -95,31 +72,6 @@ part-below_not k f h = All-head (λ part. part < k) f.0 [] h
 
 pub part-below_ex2 : (k : ℕ) (t : Track) (f : FormulaId) → HasPartsBelow k (Node.Ex2 t f) → f.0 < k
 part-below_ex2 k t f h = All-head (λ part. part < k) f.0 [] h
-
-pub parts-And : (k : ℕ) (f g : FormulaId) → f.0 < k → g.0 < k → HasPartsBelow k (Node.And f g)
-parts-And k f g left right = All-cons (λ part. part < k) f.0 (g.0 ∷ []) left (All-cons (λ part. part < k) g.0 [] right (All-nil (λ part. part < k)))
-
-pub parts-Not : (k : ℕ) (f : FormulaId) → f.0 < k → HasPartsBelow k (Node.Not f)
-parts-Not k f below = All-cons (λ part. part < k) f.0 [] below (All-nil (λ part. part < k))
-
-pub parts-Ex2 : (k : ℕ) (t : Track) (f : FormulaId) → f.0 < k → HasPartsBelow k (Node.Ex2 t f)
-parts-Ex2 k t f below = All-cons (λ part. part < k) f.0 [] below (All-nil (λ part. part < k))
-
--- the formula of a number that was made by a form
-pub made-And : (old new : List Formula) (made f g : FormulaId) → slice_get new made.0 ≡ Some (formula_of_node old (Node.And f g)) →
-    formula_of new made ≡ And (formula_of old f) (formula_of old g)
-made-And old new made f g e = formula_at-is new made.0 _ e ∙ rolls-And (formula_of old f) (formula_of old g)
-
-pub made-Not : (old new : List Formula) (made f : FormulaId) → slice_get new made.0 ≡ Some (formula_of_node old (Node.Not f)) →
-    formula_of new made ≡ Not (formula_of old f)
-made-Not old new made f e = formula_at-is new made.0 _ e ∙ rolls-Not (formula_of old f)
-
-pub made-Ex2 : (old new : List Formula) (t : Track) (made f : FormulaId) → slice_get new made.0 ≡ Some (formula_of_node old (Node.Ex2 t f)) →
-    formula_of new made ≡ Ex2 t (formula_of old f)
-made-Ex2 old new t made f e = formula_at-is new made.0 _ e ∙ rolls-Ex2 t (formula_of old f)
-
-pub there-made : (formulas : List Formula) (k : ℕ) (f : Formula) → slice_get formulas k ≡ Some f → k < length formulas
-there-made formulas k f e = slice_get_within formulas k f e
 
 -- implications
 pub Implies-refl : (context : List Formula) → Implies context context
@@ -192,19 +144,15 @@ All-among P old others new among in_old in_others =
     ])
 
 -- conjunctions of conjuncts
-joined-All : (P : Formula → Type 0) → ((f g : Formula) → P f → P g → P (And f g)) → (fs last : List Formula) → All P fs → All P last → All P (joined fs last)
-joined-All P and [] last all in_last = in_last
-joined-All P and (f ∷ fs) last all in_last =
-    put (joined fs last) (joined-All P and fs last (All-tail P f fs all) in_last)
+joined-All : (P : Formula → Type 0) → ((f g : Formula) → P f → P g → P (And f g)) → (first fs : List Formula) → All P first → All P fs →
+    All P (joined first fs)
+joined-All P and first [] in_first all = in_first
+joined-All P and first (f ∷ fs) in_first all =
+    joined-All P and (after first f) fs (put first in_first) (All-tail P f fs all)
   where
-    put : (rest : List Formula) → All P rest → All P (before f rest)
-    put [] in_rest = All-cons P f [] (All-head P f fs all) (All-nil P)
-    put (g ∷ rest) in_rest = All-cons P (And f g) [] (and f g (All-head P f fs all) (All-head P g rest in_rest)) (All-nil P)
-
--- one more formula at the end
-pub joined-push : (fs : List Formula) (f : Formula) (last : List Formula) → joined (fs ++ f ∷ []) last ≡ joined fs (before f last)
-joined-push [] f last = refl
-joined-push (g ∷ fs) f last = ap (before g) (joined-push fs f last)
+    put : (there : List Formula) → All P there → All P (after there f)
+    put [] in_there = All-cons P f [] (All-head P f fs all) (All-nil P)
+    put (g ∷ rest) in_there = All-cons P (And g f) [] (and g f (All-head P g rest in_there) (All-head P f fs all)) (All-nil P)
 
 mapped-All : (formulas : List Formula) (P : Formula → Type 0) (ids : List FormulaId) → All (λ id. P (formula_of formulas id)) ids → All P
     (formulas_at formulas ids)
@@ -215,14 +163,14 @@ mapped-All formulas P (id ∷ ids) all =
 
 -- a conjunction of conjuncts is implied
 pub Implies-joined : (formulas context : List Formula) (ids : List FormulaId) → All (IsConjunct formulas context) ids →
-    Implies context (joined (formulas_at formulas ids) [])
+    Implies context (joined [] (formulas_at formulas ids))
 Implies-joined formulas context ids all = record {
   satisfied = λ a finite holds.
-      joined-All (λ c. WSat c a) (λ f g left right. (WSat-And f g a).1 (left, right)) (formulas_at formulas ids) []
+      joined-All (λ c. WSat c a) (λ f g left right. (WSat-And f g a).1 (left, right)) [] (formulas_at formulas ids)
+      (All-nil (λ c. WSat c a))
       (mapped-All formulas (λ c. WSat c a) ids
       (All-weaker (IsConjunct formulas context) (λ id. WSat (formula_of formulas id) a)
-      (λ id one. one-implied context (formula_of formulas id) one.implied a finite holds) ids all))
-      (All-nil (λ c. WSat c a));
+      (λ id one. one-implied context (formula_of formulas id) one.implied a finite holds) ids all));
 }
 
 -- a track that is free in no half isn't free in the conjunction
@@ -236,28 +184,21 @@ unbound-And t f g left right free =
     pick false in_f false in_g = false≢true (sym (fold-And Bool (is_free_in_node t) f g ∙ ap₂ (λ b d. b || d) in_f in_g) ∙ free)
 
 pub unbound-joined : (formulas context : List Formula) (t : ℕ) (ids : List FormulaId) → All (IsUnbound formulas context t) ids →
-    All (λ c. IsFree t c → ⊥) (joined (formulas_at formulas ids) [])
+    All (λ c. IsFree t c → ⊥) (joined [] (formulas_at formulas ids))
 unbound-joined formulas context t ids all =
-    joined-All (λ c. IsFree t c → ⊥) (unbound-And t) (formulas_at formulas ids) []
+    joined-All (λ c. IsFree t c → ⊥) (unbound-And t) [] (formulas_at formulas ids)
+    (All-nil (λ c. IsFree t c → ⊥))
     (mapped-All formulas (λ c. IsFree t c → ⊥) ids
     (All-weaker (IsUnbound formulas context t) (λ id. IsFree t (formula_of formulas id) → ⊥) (λ id one. one.unbound) ids all))
-    (All-nil (λ c. IsFree t c → ⊥))
 
--- the last number put before the conjunction
-pub joined-popped : (formulas : List Formula) (ids : List FormulaId) (id : FormulaId) (last : List Formula) →
-    joined (formulas_at formulas (ids ++ id ∷ [])) last ≡ joined (formulas_at formulas ids) (before (formula_of formulas id) last)
-joined-popped formulas ids id last =
-    ap (λ fs. joined fs last) (map-append (formula_of formulas) ids (id ∷ [])) ∙ joined-push (formulas_at formulas ids) (formula_of formulas id) last
-
--- one turn of the loop that puts conjuncts before a context
-pub joined-turn : (a b c : List Formula) (left ids : List FormulaId) (id made : FormulaId) (context : Option FormulaId) (whole : List Formula) →
-    Extends a b → IsThere a id → ids ≡ left ++ id ∷ [] → joined (formulas_at a ids) (context_at b context) ≡ whole →
-    formula_of c made ∷ [] ≡ before (formula_of b id) (context_at b context) → joined (formulas_at a left) (context_at c (Some made)) ≡ whole
-joined-turn a b c left ids id made context whole h there e was put =
-    ap (joined (formulas_at a left)) put
-    ∙ ap (λ f. joined (formulas_at a left) (before f (context_at b context))) (at-extends a b id h there)
-    ∙ sym (joined-popped a left id (context_at b context))
-    ∙ ap (λ (xs : List FormulaId). joined (formulas_at a xs) (context_at b context)) (sym e)
+-- one turn of the loop that puts conjuncts after a context
+pub joined-turn : (a b c : List Formula) (rest more : List FormulaId) (id made : FormulaId) (context : Option FormulaId) (whole : List Formula) →
+    Extends a b → IsThere a id → rest ≡ id ∷ more → joined (context_at b context) (formulas_at a rest) ≡ whole →
+    formula_of c made ∷ [] ≡ after (context_at b context) (formula_of b id) → joined (context_at c (Some made)) (formulas_at a more) ≡ whole
+joined-turn a b c rest more id made context whole h there e was put =
+    ap (λ (first : List Formula). joined first (formulas_at a more)) put
+    ∙ ap (λ (f : Formula). joined (after (context_at b context) f) (formulas_at a more)) (at-extends a b id h there)
+    ∙ ap (λ (ids : List FormulaId). joined (context_at b context) (formulas_at a ids)) (sym e)
     ∙ was
 
 -- what was among stays so with one more
@@ -271,6 +212,29 @@ IsAmong-push old others now new id among there e other inside =
 
 pub IsAmong-refl : (old others : List FormulaId) → IsAmong old others old
 IsAmong-refl old others id there = inl there
+
+-- what was chosen of one list and then of another
+pub IsAmong-both : (none first second one two : List FormulaId) → none ≡ [] → IsAmong none first one → IsAmong one second two → IsAmong first second two
+IsAmong-both none first second one two e in_one in_two id there =
+    elim (in_two id there) as (λ _. Contains first id ⊎ Contains second id) [
+      | inl was ↦ elim (in_one id was) as (λ _. Contains first id ⊎ Contains second id) [
+        | inl before ↦ absurd (Contains-none id (subst (λ (ids : List FormulaId). Contains ids id) e before))
+        | inr chosen ↦ inl chosen
+      ]
+      | inr chosen ↦ inr chosen
+    ]
+
+IsAmong-swapped : (first second new : List FormulaId) → IsAmong first second new → IsAmong second first new
+IsAmong-swapped first second new among id there =
+    elim (among id there) as (λ _. Contains second id ⊎ Contains first id) [
+      | inl one ↦ inr one
+      | inr other ↦ inl other
+    ]
+
+pub chosen-swapped : {E : Type 0} (first second : List FormulaId) (r : Result (Vec FormulaId Global) E) → IfOk r (λ chosen. IsAmong first second chosen.items) →
+    IfOk r (λ chosen. IsAmong second first chosen.items)
+chosen-swapped first second (Ok chosen) among = IsAmong-swapped first second chosen.items among
+chosen-swapped first second (Err e) among = among
 
 -- lists that grow
 pub All-empty : {X : Type 0} (P : X → Type 0) (xs : List X) → xs ≡ [] → All P xs
@@ -295,7 +259,7 @@ IsConjunct-node formulas id f g node value parts e context conjunct =
 
 -- the context of what was chosen
 pub Implies-chosen : (old new : List Formula) (context : List Formula) (none members chosen : List FormulaId) (made : Option FormulaId) → none ≡ [] →
-    IsAmong none members chosen → All (IsConjunct old context) members → context_at new made ≡ joined (formulas_at old chosen) [] →
+    IsAmong none members chosen → All (IsConjunct old context) members → context_at new made ≡ joined [] (formulas_at old chosen) →
     Implies context (context_at new made)
 Implies-chosen old new context none members chosen made e among all value =
     subst (Implies context) (sym value) (Implies-joined old context chosen (All-chosen (IsConjunct old context) none members chosen e among all))

@@ -39,15 +39,15 @@ pub record IsUnbound (formulas context : List Formula) (t : ℕ) (id : FormulaId
   pub conjunct : IsConjunct formulas context id
   pub unbound : IsFree t (formula_of formulas id) → ⊥
 
--- a conjunct before what there is
-abbrev pub before : Formula → List Formula → List Formula
-before f [] = f ∷ []
-before f (g ∷ rest) = And f g ∷ []
+-- a conjunct after what there is
+abbrev pub after : List Formula → Formula → List Formula
+after [] f = f ∷ []
+after (g ∷ rest) f = And g f ∷ []
 
--- the conjunction of the formulas, before what there is
+-- the conjunction of what there is and of the formulas, from the left
 abbrev pub joined : List Formula → List Formula → List Formula
-joined [] last = last
-joined (f ∷ formulas) last = before f (joined formulas last)
+joined first [] = first
+joined first (f ∷ formulas) = joined (after first f) formulas
 
 -- the formulas of the numbers
 abbrev pub formulas_at : List Formula → List FormulaId → List Formula

@@ -5,12 +5,12 @@ ghost use Rattle.ws2s_core.specs.declared.formula.Formula.{Formula};
 ghost use Rattle.ws2s_core.specs.Nodes.{Extends};
 ghost use Rattle.ws2s_core.specs.Tracks.{IsFree};
 ghost use Rattle.ws2s_context.specs.Conjuncts.{IsThere, IsContext, IsConjunct, IsUnbound, IsAmong, formula_of, context_at};
-ghost use Rattle.ws2s_context.specs.Conjuncts.{Implies, before, joined, formulas_at};
+ghost use Rattle.ws2s_context.specs.Conjuncts.{Implies, after, joined, formulas_at};
 ghost use Rattle.ws2s_context.specs.Facts.{AreFacts};
 
 use crate::choice::Choice;
 use crate::facts::{Facts, make};
-use crate::spine::conjuncts_of;
+use crate::spine::{conjuncts_of, is_single};
 use crate::uses::Uses;
 use std::alloc::{AllocError, Global};
 use std::collections::HashSet;
@@ -19,10 +19,13 @@ use ws2s_core::{FormulaId, Interner, Node, Track};
 /// How many conjuncts a context has at most.
 const MANY_CONJUNCTS: usize = 128;
 
+/// How many `Single` atoms come beside a negation at most: more have a state for each set of them.
+const MANY_SINGLES: u32 = 3;
+
 /// What holds around a formula, as one conjunction; `None` where nothing is known.
 pub(crate) type Context = Option<FormulaId>;
 
-/// The conjunction of conjuncts, as a context.
+/// The conjunction of conjuncts from the left, as a context: contexts that begin with the same conjuncts begin with the same formula.
 fn conjunction_of(
     alloc: Global,
     interner: &mut Interner,
@@ -33,38 +36,39 @@ fn conjunction_of(
     requires facts { AreFacts interner.old facts.old.facts.items }
     ensures kept { Extends interner.old interner.new }
     ensures there { IfOk result (IsContext interner.new) }
-    ensures value { IfOk result (λ context. context_at interner.new context ≡ joined (formulas_at interner.old conjuncts.items) []) }
+    ensures value { IfOk result (λ context. context_at interner.new context ≡ joined [] (formulas_at interner.old conjuncts.items)) }
     ensures facts { IfOk result (λ context. AreFacts interner.new facts.new.facts.items) }
 {
-    let mut conjuncts = conjuncts;
     let mut context = None;
-    while let Some(conjunct) = conjuncts.pop() {
-        let made = put_before(alloc, interner, facts, conjunct, context)?;
+    let mut rest = conjuncts.as_slice();
+    while let Some((conjunct, more)) = rest.split_first() {
+        let made = put_after(alloc, interner, facts, context, *conjunct)?;
         context = Some(made);
+        rest = more;
     }
     Ok(context)
 }
 
-/// The conjunct before what the context has.
-fn put_before(
+/// The conjunct after what the context has.
+fn put_after(
     alloc: Global,
     interner: &mut Interner,
     facts: &mut Facts,
-    conjunct: FormulaId,
     context: Context,
+    conjunct: FormulaId,
 ) -> Result<FormulaId, AllocError>
-    requires conjunct { IsThere interner.old conjunct }
     requires context { IsContext interner.old context }
+    requires conjunct { IsThere interner.old conjunct }
     requires facts { AreFacts interner.old facts.old.facts.items }
     ensures kept { Extends interner.old interner.new }
     ensures there { IfOk result (IsThere interner.new) }
     ensures value { IfOk result (λ id. formula_of interner.new id ∷ [] ≡
-        before (formula_of interner.old conjunct) (context_at interner.old context)) }
+        after (context_at interner.old context) (formula_of interner.old conjunct)) }
     ensures facts { IfOk result (λ id. AreFacts interner.new facts.new.facts.items) }
 {
     match context {
         Some(rest) => {
-            let made = make(alloc, interner, facts, Node::And(conjunct, rest))?;
+            let made = make(alloc, interner, facts, Node::And(rest, conjunct))?;
             Ok(made)
         }
         None => Ok(conjunct),
@@ -139,7 +143,7 @@ pub(crate) fn narrowed(
     Ok(made)
 }
 
-/// What of a context was conjoined inside a formula.
+/// What of a context was conjoined inside a formula, and its `Single` atoms that are relevant to it, where these are few.
 pub(crate) fn used(
     alloc: Global,
     interner: &mut Interner,
@@ -157,26 +161,62 @@ pub(crate) fn used(
 {
     let members = members_of(alloc, interner, context)?;
     let mut chosen = Vec::new(alloc);
-    choose_used(&mut chosen, uses, &members, inside)?;
+    choose_used(&mut chosen, interner, facts, uses, &members, inside)?;
     let made = conjunction_of(alloc, interner, facts, chosen)?;
     Ok(made)
 }
 
-/// Chooses those conjuncts that were conjoined inside a formula.
+/// Chooses those conjuncts that were conjoined inside a formula, and its `Single` atoms where they are few.
 fn choose_used(
     chosen: &mut Vec<FormulaId>,
+    interner: &Interner,
+    facts: &Facts,
     uses: &Uses,
     conjuncts: &[FormulaId],
     inside: FormulaId,
 ) -> Result<(), AllocError>
     ensures { OnOk result (IsAmong chosen.old.items conjuncts.now chosen.new.items) }
 {
+    let are_few = are_singles_few(interner, facts, conjuncts, inside);
     for conjunct in conjuncts {
-        if uses.has(*conjunct, inside) {
+        if is_used(interner, facts, uses, *conjunct, inside, are_few) {
             chosen.push(*conjunct)?;
         }
     }
     Ok(())
+}
+
+/// Whether a conjunct was conjoined inside a formula, or is one of few `Single` atoms.
+fn is_used(
+    interner: &Interner,
+    facts: &Facts,
+    uses: &Uses,
+    conjunct: FormulaId,
+    inside: FormulaId,
+    are_few: bool,
+) -> bool {
+    uses.has(conjunct, inside) || (are_few && is_single_of(interner, facts, conjunct, inside))
+}
+
+/// Whether the conjunct says of a free track of the formula that it has one position.
+fn is_single_of(interner: &Interner, facts: &Facts, conjunct: FormulaId, id: FormulaId) -> bool {
+    is_single(interner, conjunct) && facts.is_relevant(conjunct, id)
+}
+
+/// Whether few of the conjuncts say so of a free track of the formula.
+fn are_singles_few(
+    interner: &Interner,
+    facts: &Facts,
+    conjuncts: &[FormulaId],
+    id: FormulaId,
+) -> bool {
+    let mut count: u32 = 0;
+    for conjunct in conjuncts {
+        if is_single_of(interner, facts, *conjunct, id) {
+            count = count.saturating_add(1);
+        }
+    }
+    count <= MANY_SINGLES
 }
 
 /// The context of the right half of a conjunction: what is relevant to it of what the left half has, of a projection of that,
@@ -202,12 +242,44 @@ pub(crate) fn beside(
 {
     let of_left = left_conjuncts(alloc, interner, choice, left, projection)?;
     let members = members_of(alloc, interner, context)?;
-    let mut chosen = Vec::new(alloc);
-    let mut known = HashSet::new(alloc);
-    choose(&mut chosen, &mut known, facts, &of_left, right)?;
-    choose(&mut chosen, &mut known, facts, &members, right)?;
+    let chosen = chosen_beside(alloc, facts, choice, &of_left, &members, right)?;
     let made = conjunction_of(alloc, interner, facts, chosen)?;
     Ok(made)
+}
+
+/// Conjuncts of the left half of a conjunction and of its context that are relevant to the right one. Those of the context come first
+/// where they are many: contexts of one formula begin alike then.
+fn chosen_beside(
+    alloc: Global,
+    facts: &Facts,
+    choice: &Choice,
+    of_left: &[FormulaId],
+    members: &[FormulaId],
+    right: FormulaId,
+) -> Result<Vec<FormulaId>, AllocError>
+    ensures { IfOk result (λ chosen. IsAmong of_left.now members.now chosen.items) }
+{
+    if choice.is_whole() {
+        return chosen_of_both(alloc, facts, members, of_left, right);
+    }
+    chosen_of_both(alloc, facts, of_left, members, right)
+}
+
+/// The relevant conjuncts of two lists, each once, those of the first list first.
+fn chosen_of_both(
+    alloc: Global,
+    facts: &Facts,
+    first: &[FormulaId],
+    second: &[FormulaId],
+    id: FormulaId,
+) -> Result<Vec<FormulaId>, AllocError>
+    ensures { IfOk result (λ chosen. IsAmong first.now second.now chosen.items) }
+{
+    let mut chosen = Vec::new(alloc);
+    let mut known = HashSet::new(alloc);
+    choose(&mut chosen, &mut known, facts, first, id)?;
+    choose(&mut chosen, &mut known, facts, second, id)?;
+    Ok(chosen)
 }
 
 /// Those conjuncts of the left half of a conjunction that come into contexts, and the projection where it is another formula.

@@ -15,7 +15,8 @@ use crate::uses::Uses;
 use crate::visiting::{turn, visit};
 use plain_data::Stack;
 use std::alloc::{AllocError, Global};
-use ws2s_core::Interner;
+use std::collections::HashSet;
+use ws2s_core::{FormulaId, Interner};
 
 /// What is still to be done, the next task on top, and what was rewritten.
 #[derive(Drop)]
@@ -24,6 +25,8 @@ pub(crate) struct Machine {
     pub(crate) rewritings: Rewritings,
     pub(crate) choice: Choice,
     pub(crate) uses: Uses,
+    /// Conjunctions whose right half was one before it was rewritten.
+    pub(crate) chains: HashSet<FormulaId>,
 }
 
 /// Does a task.

@@ -8,12 +8,13 @@ ghost use Rattle.ws2s_context.specs.Conjuncts.{IsThere, IsContext, Implies, form
 ghost use Rattle.ws2s_context.specs.Facts.{AreFacts};
 ghost use Rattle.ws2s_context.specs.Going.{IsGoing, IsConjoining, IsNegating, IsQuantifying};
 
-use crate::context::{Context, used};
+use crate::context::{Context, note, used};
 use crate::facts::{Facts, make};
 use crate::machine::Machine;
-use crate::spine::is_atom;
+use crate::spine::{is_atom, is_conjunction};
 use crate::task::Place;
 use std::alloc::{AllocError, Global};
+use std::collections::HashSet;
 use ws2s_core::{FormulaId, Interner, Node, Track};
 
 /// The halves of a conjunction are put together again.
@@ -39,7 +40,21 @@ pub(crate) fn make_conjunction(
     let made = make(alloc, interner, facts, Node::And(first, second))?;
     machine.uses.pass_on(&watched, first, made)?;
     machine.uses.pass_on(&watched, second, made)?;
+    note_chain(interner, right.id, made, &mut machine.chains)?;
     machine.rewritings.add(place, made)?;
+    Ok(())
+}
+
+/// A conjunction was made that goes on where its right half is one.
+fn note_chain(
+    interner: &Interner,
+    right: FormulaId,
+    made: FormulaId,
+    chains: &mut HashSet<FormulaId>,
+) -> Result<(), AllocError> {
+    if is_conjunction(interner, right) {
+        return note(chains, made);
+    }
     Ok(())
 }
 
@@ -126,8 +141,9 @@ fn negated(
     Ok(made)
 }
 
-/// What a negation needs of its context. Where atoms alone are conjoined: those that were conjoined inside what it negates,
-/// since what they ruled out there would be let in by it. Otherwise all, but for a negated atom.
+/// What a negation needs of its context. A few `Single` atoms always: to tell apart sets of many positions under a negation is dear (MONA's
+/// restrictions of first-order variables are the same). Where atoms alone are conjoined, those too that were conjoined inside what it
+/// negates, since what they ruled out there would be let in by it. Otherwise all, but for a negated atom.
 fn needed_by(
     alloc: Global,
     interner: &mut Interner,
@@ -144,13 +160,10 @@ fn needed_by(
     ensures implied { IfOk result (λ needed. Implies (context_at interner.old context) (context_at interner.new needed)) }
     ensures facts { IfOk result (λ needed. AreFacts interner.new facts.new.facts.items) }
 {
-    if !machine.choice.is_whole() {
-        return used(alloc, interner, facts, &machine.uses, context, part);
+    if machine.choice.is_whole() && !is_atom(interner, inner) {
+        return Ok(context);
     }
-    if is_atom(interner, inner) {
-        return Ok(None);
-    }
-    Ok(context)
+    used(alloc, interner, facts, &machine.uses, context, part)
 }
 
 /// The conjunction of a context and a formula, where it is wanted; otherwise the formula.

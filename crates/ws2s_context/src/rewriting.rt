@@ -15,7 +15,9 @@ use crate::task::{Place, Task};
 use crate::uses::Uses;
 use plain_data::Stack;
 use std::alloc::{AllocError, Global};
+use std::collections::HashSet;
 use ws2s_core::{FormulaId, Interner, TrackList};
+use ws2s_lean::lean_left;
 
 /// The number of a formula with the same satisfying assignments, in which what holds around a part is conjoined inside it.
 /// Definitions are conjoined as projections too: to their own tracks and those that are weighed.
@@ -59,7 +61,28 @@ fn rewritten(
     let mut machine = first_machine(alloc, interner, place, choice)?;
     run(alloc, interner, &mut facts, &mut machine)?;
     let made = machine.rewritings.to(place);
-    Ok(made)
+    let folded = folded_left(alloc, interner, &machine, made)?;
+    Ok(folded)
+}
+
+/// What was rewritten, its chains of conjunctions folded to the left. Contexts and what stands beside them stay apart, since contexts are
+/// shared.
+fn folded_left(
+    alloc: Global,
+    interner: &mut Interner,
+    machine: &Machine,
+    made: FormulaId,
+) -> Result<FormulaId, AllocError>
+    requires { IsThere interner.old made }
+    ensures there { IfOk result (IsThere interner.new) }
+    ensures same { IfOk result (λ id. Same (formula_of interner.old made) (formula_of interner.new id)) }
+    ensures kept { Extends interner.old interner.new }
+{
+    if !machine.choice.is_whole() {
+        return Ok(made);
+    }
+    let id = lean_left(alloc, interner, made, &machine.chains)?;
+    Ok(id)
 }
 
 /// The machine that is to rewrite a formula.
@@ -80,5 +103,6 @@ fn first_machine(
         rewritings,
         choice,
         uses: Uses::new(alloc),
+        chains: HashSet::new(alloc),
     })
 }

@@ -4,16 +4,16 @@ use Rattle.ws2s_core.specs.declared.node.FormulaId.{FormulaId}
 use Rattle.ws2s_context.specs.Conjuncts.{IsAmong}
 use Rattle.ws2s_context.proofs.ConjunctsLemmas.{IsAmong-push, Contains-at}
 use Rattle.ws2s_context.proofs.context.choose_used.Goals as goal
-use Rattle.ws2s_context.proofs.context.choose_used.Goals.{then-has+in_ok-push, else-has}
+use Rattle.ws2s_context.proofs.context.choose_used.Goals.{then-is_used+in_ok-push, else-is_used}
 
 pub loop-conjunct-preserved : goal.loop-conjunct-preserved
 loop-conjunct-preserved c =
     let l = c.loop-conjunct in
-    elim c.if-has.branch [
-      | then-has+in_ok-push w ↦
-          IsAmong-push c.args.chosen.now.items c.args.conjuncts.now l.chosen.items c.if-has.chosen.items _ l.invariant
+    elim c.if-is_used.branch [
+      | then-is_used+in_ok-push w ↦
+          IsAmong-push c.args.chosen.now.items c.args.conjuncts.now l.chosen.items c.if-is_used.chosen.items _ l.invariant
           (Contains-at c.args.conjuncts.now l.conjunct-index _ c.loop-conjunct-test.true)
           (ap (λ (v : Vec FormulaId Global). v.items) w.chosen-is ∙ w.in_ok-push.ensures.items)
-      | else-has w ↦
+      | else-is_used w ↦
           subst (λ (v : Vec FormulaId Global). IsAmong c.args.chosen.now.items c.args.conjuncts.now v.items) (sym w.chosen-is) l.invariant
     ]
