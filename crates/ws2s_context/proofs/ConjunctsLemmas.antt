@@ -1,24 +1,22 @@
 -- On contexts by numbers.
-use Rattle.std.proofs.Common.{◌≡◌, ◌⊎◌, ℕ, ◌<◌, List, [], ◌∷◌, ◌++◌, length, option_map, slice_get, unwrap_or, All, Contains, Option, Some, None}
-use Rattle.std.proofs.Common.{refl, sym, ap, ap₂, subst, ◌∙◌, arith, inl, inr, length-append}
+use Rattle.std.proofs.Common.{◌≡◌, ◌⊎◌, ℕ, ◌<◌, List, [], ◌∷◌, ◌++◌, length, option_map, slice_get, All, Contains, Option, Some, None}
+use Rattle.std.proofs.Common.{refl, sym, ap, ap₂, subst, ◌∙◌, arith, inl, inr}
 use Rattle.std.proofs.Common.{Bool, true, false, ◌||◌, zero, suc, get_or, Vec, Result, Ok, Err, IfOk}
 use Rattle.std.specs.declared.alloc.Global.{Global}
 use Rattle.std.proofs.lemmas.Bool.{false≢true}
-use Rattle.std.proofs.lemmas.Option.{slice_get_within}
 use Rattle.std.proofs.lemmas.List.Elements.{All-nil, All-cons, All-head, All-tail, All-weaker, All-push, Contains-push_cases}
 use Rattle.gta_theory.specs.Assignments.{Assignment, IsFinite}
 use Rattle.gta_theory.proofs.ListsLemmas.{All-from_contains, Contains-none}
 use Rattle.ws2s_core.specs.declared.track.Track.{Track}
 use Rattle.ws2s_core.specs.declared.formula.Formula.{Formula}
-use Rattle.ws2s_core.specs.declared.formula.Formula.TheVariants.{Root, And, Not, Ex2, rolls-And, rolls-Not, rolls-Ex2}
+use Rattle.ws2s_core.specs.declared.formula.Formula.TheVariants.{And, Not, Ex2, rolls-And, rolls-Not, rolls-Ex2}
 use Rattle.ws2s_core.specs.declared.node.FormulaId.{FormulaId}
 use Rattle.ws2s_core.specs.declared.node.Node.{Node}
-use Rattle.ws2s_core.specs.Nodes.{formula_at, formula_of_node, HasPartsBelow, Extends}
+use Rattle.ws2s_core.specs.Nodes.{formula_of_node, HasPartsBelow, Extends}
 use Rattle.ws2s_core.specs.Satisfaction.{WSat}
 use Rattle.ws2s_core.specs.Tracks.{is_free, is_free_in_node, IsFree}
 use Rattle.ws2s_core.proofs.FormulaLemmas.{fold-And}
 use Rattle.ws2s_core.proofs.NodesLemmas.{formula_at-is}
-use Rattle.gta_theory.proofs.ListedLemmas.{slice_get-front}
 use Rattle.ws2s_core.proofs.SatisfactionLemmas.{WSat-And}
 use Rattle.ws2s_theory.specs.Contexts.{SatisfiesAll}
 use Rattle.ws2s_theory.proofs.ContextsLemmas.{WSat-quantified}

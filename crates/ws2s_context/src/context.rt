@@ -10,7 +10,7 @@ ghost use Rattle.ws2s_context.specs.Facts.{AreFacts};
 
 use crate::choice::Choice;
 use crate::facts::{Facts, make};
-use crate::spine::{conjuncts_of, is_single};
+use crate::spine::conjuncts_of;
 use crate::uses::Uses;
 use std::alloc::{AllocError, Global};
 use std::collections::HashSet;
@@ -143,11 +143,12 @@ pub(crate) fn narrowed(
     Ok(made)
 }
 
-/// What of a context was conjoined inside a formula, and its `Single` atoms that are relevant to it, where these are few.
+/// What of a context was conjoined inside a formula, and its `Single` atoms that come beside negations of it, where these are few.
 pub(crate) fn used(
     alloc: Global,
     interner: &mut Interner,
     facts: &mut Facts,
+    choice: &Choice,
     uses: &Uses,
     context: Context,
     inside: FormulaId,
@@ -161,25 +162,26 @@ pub(crate) fn used(
 {
     let members = members_of(alloc, interner, context)?;
     let mut chosen = Vec::new(alloc);
-    choose_used(&mut chosen, interner, facts, uses, &members, inside)?;
+    choose_used(&mut chosen, interner, facts, choice, uses, &members, inside)?;
     let made = conjunction_of(alloc, interner, facts, chosen)?;
     Ok(made)
 }
 
-/// Chooses those conjuncts that were conjoined inside a formula, and its `Single` atoms where they are few.
+/// Chooses those conjuncts that were conjoined inside a formula, and `Single` atoms where they are few.
 fn choose_used(
     chosen: &mut Vec<FormulaId>,
     interner: &Interner,
     facts: &Facts,
+    choice: &Choice,
     uses: &Uses,
     conjuncts: &[FormulaId],
     inside: FormulaId,
 ) -> Result<(), AllocError>
     ensures { OnOk result (IsAmong chosen.old.items conjuncts.now chosen.new.items) }
 {
-    let are_few = are_singles_few(interner, facts, conjuncts, inside);
+    let are_few = are_singles_few(interner, facts, choice, conjuncts, inside);
     for conjunct in conjuncts {
-        if is_used(interner, facts, uses, *conjunct, inside, are_few) {
+        if is_used(interner, facts, choice, uses, *conjunct, inside, are_few) {
             chosen.push(*conjunct)?;
         }
     }
@@ -190,29 +192,26 @@ fn choose_used(
 fn is_used(
     interner: &Interner,
     facts: &Facts,
+    choice: &Choice,
     uses: &Uses,
     conjunct: FormulaId,
     inside: FormulaId,
     are_few: bool,
 ) -> bool {
-    uses.has(conjunct, inside) || (are_few && is_single_of(interner, facts, conjunct, inside))
+    uses.has(conjunct, inside) || (are_few && choice.restricts(interner, facts, conjunct, inside))
 }
 
-/// Whether the conjunct says of a free track of the formula that it has one position.
-fn is_single_of(interner: &Interner, facts: &Facts, conjunct: FormulaId, id: FormulaId) -> bool {
-    is_single(interner, conjunct) && facts.is_relevant(conjunct, id)
-}
-
-/// Whether few of the conjuncts say so of a free track of the formula.
+/// Whether few of the conjuncts are `Single` atoms that come beside negations of the formula.
 fn are_singles_few(
     interner: &Interner,
     facts: &Facts,
+    choice: &Choice,
     conjuncts: &[FormulaId],
     id: FormulaId,
 ) -> bool {
     let mut count: u32 = 0;
     for conjunct in conjuncts {
-        if is_single_of(interner, facts, *conjunct, id) {
+        if choice.restricts(interner, facts, *conjunct, id) {
             count = count.saturating_add(1);
         }
     }

@@ -163,7 +163,15 @@ fn needed_by(
     if machine.choice.is_whole() && !is_atom(interner, inner) {
         return Ok(context);
     }
-    used(alloc, interner, facts, &machine.uses, context, part)
+    used(
+        alloc,
+        interner,
+        facts,
+        &machine.choice,
+        &machine.uses,
+        context,
+        part,
+    )
 }
 
 /// The conjunction of a context and a formula, where it is wanted; otherwise the formula.
