@@ -1,7 +1,13 @@
 use Rattle.std.proofs.Common.{subst}
 use Rattle.ws2s_decide.specs.Deciding.{IsVerdict}
+use Rattle.field_judge.proofs.KnownLemmas.{follows-field}
 use Rattle.field_judge.proofs.LightestLemmas.{lightest-from, functional-from, formula-is}
 use Rattle.field_judge.proofs.judging.judge_laid_out.Goals as goal
+
+pub verdict_alone-requires-clause-follows : goal.verdict_alone-requires-clause-follows
+verdict_alone-requires-clause-follows g c =
+    follows-field c.args.l.now.types c.args.l.now.vars c.args.f c.in_ok-formula.formula c.in_ok-known.known c.in_ok-known.ensures.holds
+    c.in_ok-formula.ensures.value
 
 pub fork_of-requires-clause-lightest : goal.fork_of-requires-clause-lightest
 fork_of-requires-clause-lightest g c =

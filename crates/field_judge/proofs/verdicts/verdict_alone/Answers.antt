@@ -3,9 +3,9 @@ use Rattle.gta_theory.specs.Guides.{Spaces}
 use Rattle.ws2s_theory.specs.Peaks.{HasPeak}
 use Rattle.field_judge.proofs.verdicts.verdict_alone.Goals as goal
 
-pub verdict_on-verdict-requires : goal.verdict_on-verdict-requires
-verdict_on-verdict-requires g c =
-    c.used_once-decider.ensures.kept c.args.shelf.now (c.in_ok-decider.ensures.kept c.args.shelf.now c.requires)
+pub verdict_on-verdict-requires-clause-kept : goal.verdict_on-verdict-requires-clause-kept
+verdict_on-verdict-requires-clause-kept g c =
+    c.used_once-decider.ensures.kept c.args.shelf.now (c.in_ok-decider.ensures.kept c.args.shelf.now c.requires.tables)
 
 -- the decider is under the guide
 pub returns-clause-limit : goal.returns-clause-limit
