@@ -1,5 +1,6 @@
 -- The formula of trees keeps the cells of each two variants apart.
-use Rattle.std.proofs.Common.{◌≡◌, ◌≢◌, ℕ, zero, suc, ◌<◌, ◌≤◌, inl, inr, List, [], ◌∷◌, ◌++◌, map, flat_map, length, Contains, append-nil, sym, ap, ◌∙◌, subst, arith}
+use Rattle.std.proofs.Common.{◌≡◌, ◌≢◌, ℕ, zero, suc, ◌<◌, ◌≤◌, inl, inr, List, [], ◌∷◌, ◌++◌, map, flat_map, length, Contains, append-nil}
+use Rattle.std.proofs.Common.{sym, ap, ◌∙◌, subst, arith}
 use Rattle.std.proofs.lemmas.List.Elements.{Contains-append_cases}
 use Rattle.std.proofs.lemmas.Grind.{flat_map-append}
 use Rattle.std.proofs.lemmas.List.Concat.{flat_map-cons}
@@ -123,7 +124,8 @@ all-differ types =
     let index : j ≡ k = ap (λ (v : VariantId). v.index) same in
     omega (arith, index, below)) (variant_count types (type_id i)))
     (λ i j v w below one other same.
-    let number : i ≡ j = ap (λ (t : TypeId). t.0) (sym (of-type types (type_id i) v one).0 ∙ ap (λ (u : VariantId). u.ty) same ∙ (of-type types (type_id j) w other).0) in
+    let typed : type_id i ≡ type_id j = sym (of-type types (type_id i) v one).0 ∙ ap (λ (u : VariantId). u.ty) same ∙ (of-type types (type_id j) w other).0 in
+    let number : i ≡ j = ap (λ (t : TypeId). t.0) typed in
     omega (arith, number, below))
     (length types)
 

@@ -73,7 +73,14 @@ fn push_pairs(
     ensures { OnOk result (parts.new.items ≡ parts.old.items ++ pairs (encoded.are_apart next l.now.types) variants.now) }
 {
     for place in 0..variants.len() {
-        push_apart(alloc, parts, l, next, variants[place], &variants[place + 1..])?;
+        push_apart(
+            alloc,
+            parts,
+            l,
+            next,
+            variants[place],
+            &variants[place + 1..],
+        )?;
     }
     Ok(())
 }

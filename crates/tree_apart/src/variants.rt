@@ -10,11 +10,7 @@ use store_core::{TypeId, VariantId};
 use tree_encode::{Layout, VariantList};
 
 /// Adds the variants of a type.
-fn push_variants(
-    variants: &mut VariantList,
-    l: &Layout<'_>,
-    ty: TypeId,
-) -> Result<(), AllocError>
+fn push_variants(variants: &mut VariantList, l: &Layout<'_>, ty: TypeId) -> Result<(), AllocError>
     ensures { OnOk result (variants.new ≡ variants.old ++ variants_of l.now.types ty) }
 {
     for index in 0..l.types().variants(ty) {

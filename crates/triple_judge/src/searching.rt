@@ -151,7 +151,17 @@ pub(crate) fn decide_sites(
     let guide = l.guide(alloc)?;
     let of_trees = cells_apart(alloc, l)?;
     let mut decider = Decider::new(alloc, guide)?;
-    let searched = decide_in_order(alloc, l, t, count, &of_trees, passes, tracks, &mut decider, shelf);
+    let searched = decide_in_order(
+        alloc,
+        l,
+        t,
+        count,
+        &of_trees,
+        passes,
+        tracks,
+        &mut decider,
+        shelf,
+    );
     decider.close(shelf);
     searched
 }
