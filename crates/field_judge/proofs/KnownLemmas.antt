@@ -1,6 +1,5 @@
 -- What follows from a formula may be joined to it.
-use Rattle.std.proofs.Common.{◌≡◌, ℕ, ◌≤◌, List, sym, subst, arith}
-use Rattle.gta_theory.specs.Assignments.{Assignment, IsFinite}
+use Rattle.std.proofs.Common.{◌≡◌, List, sym, subst, arith}
 use Rattle.ws2s_core.specs.declared.formula.Formula.{Formula}
 use Rattle.ws2s_core.specs.declared.formula.Formula.TheVariants.{And}
 use Rattle.ws2s_core.specs.Satisfaction.{WSat, Same}
