@@ -1,3 +1,4 @@
 pub mod OneEach
 pub mod Weighed
 pub mod Judging
+pub mod Known

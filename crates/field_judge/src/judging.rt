@@ -10,12 +10,13 @@ ghost use Rattle.field_judge.specs.Judging.{HasFieldPeak, IsLightestFork, IsLeas
 
 use crate::forks::first_fork;
 use crate::variables::one_each;
-use crate::verdicts::verdict_on;
+use crate::verdicts::verdict_alone;
 use crate::weighing::weighed;
 use bdd_nodes::Shelf;
 use graph_routes::field_formula;
 use std::alloc::{AllocError, Global};
 use store_core::{CellId, FieldId, Store, TypeTable};
+use tree_apart::cells_apart;
 use tree_encode::{Layout, VariantList};
 use witness_store::backbone_of;
 use ws2s_core::LabelTree;
@@ -71,7 +72,8 @@ fn judge_laid_out(
     let guide = l.guide(alloc)?;
     let tracks = weighed(alloc, l)?;
     let formula = field_formula(alloc, l, f)?;
-    match verdict_on(alloc, &formula, passes, &guide, &tracks, shelf)? {
+    let known = cells_apart(alloc, l)?;
+    match verdict_alone(alloc, guide, &formula, &known, passes, &tracks, shelf)? {
         Verdict::None => Ok(FieldJudged::Functional),
         Verdict::Witness(tree, _) => {
             let (store, cell) = fork_of(alloc, l, f, &tree)?;

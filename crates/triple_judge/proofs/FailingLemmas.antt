@@ -29,10 +29,12 @@ use Rattle.tree_store.proofs.WeighingLemmas.{weight-cells}
 use Rattle.tree_formula.specs.WellEncoded.{track_or_first, well_encoded}
 use Rattle.tree_store.proofs.FormulaLemmas.{well_encoded-means}
 use Rattle.tree_store.proofs.TablesLemmas.{owners-there}
+use Rattle.tree_apart.specs.Apart.{HoldsOfTrees}
 use Rattle.tree_store.specs.Stores.{IsStoreOf}
 use Rattle.graph_meaning.proofs.fields.AssignmentLemmas.{assignment}
 use Rattle.witness_store.specs.Alike.{AreFunctional}
 use Rattle.witness_store.proofs.FunctionalLemmas.{IsWellFormed-set}
+use Rattle.field_judge.specs.Known.{FollowsFrom}
 use Rattle.field_judge.proofs.WeighedLemmas.{are-variant_tracks}
 use Rattle.site_list.specs.declared.site.Site.{Site}
 use Rattle.triple_meaning.specs.Sites.Seeing.{IsOver}
@@ -52,31 +54,42 @@ use Rattle.triple_judge.proofs.MeaningLemmas.{place_of, first-satisfied, satisfi
 first-part : (next : ℕ) (f : Formula) (fs : List Formula) (a : Assignment) → WSat (and_list next (f ∷ fs)) a → WSat f a
 first-part next f fs a sat = ((WSat-and_list a next (f ∷ fs)).0 sat).0
 
-module _ (types : List TypeEntry) (vars : List VarEntry) (t : Triple) (table : IsTypeTable types) (a : Assignment) (finite : IsFinite a) where
-  abbrev next : ℕ
-  next = first_bound types vars (walked types vars t)
+module _ (types : List TypeEntry) (vars : List VarEntry) (t : Triple) (a : Assignment) where
+  abbrev from : ℕ
+  from = first_bound types vars (walked types vars t)
 
   -- the other parts of the formula of a site
   abbrev others : Check → List Formula
   others c =
-      map (λ v. empty_at next (track_or_first (var_track types vars v)).0) t.start.nulls
-      ++ bind (track_count types vars) (definitions (walked types vars t) next) (start_holds types vars t.start next)
-      ∷ bind (track_count types vars) (definitions (walked types vars t) next) (And (c.reached next) (c.condition next)) ∷ []
+      map (λ v. empty_at from (track_or_first (var_track types vars v)).0) t.start.nulls
+      ++ bind (track_count types vars) (definitions (walked types vars t) from) (start_holds types vars t.start from)
+      ∷ bind (track_count types vars) (definitions (walked types vars t) from) (And (c.reached from) (c.condition from)) ∷ []
 
   -- the first part is the formula of trees
-  encoded : (c : Check) → WSat (site_formula_at types vars t (walked types vars t) next c) a → WSat (well_encoded next types vars) a
-  encoded c sat = first-part next (well_encoded next types vars) (others c) a sat
-
-  pub lays-out : (site : ℕ) (f : Formula) → site_formula types vars t site ≡ Some f → WSat f a → LaysOut types vars a
-  lays-out site f there sat = by (slice_get (walked types vars t).checks site) there
+  encoded : (site : ℕ) (f : Formula) → site_formula types vars t site ≡ Some f → WSat f a → WSat (well_encoded from types vars) a
+  encoded site f there sat = by (slice_get (walked types vars t).checks site) there
     where
-      by : (o : Option Check) → option_map (site_formula_at types vars t (walked types vars t) next) o ≡ Some f → LaysOut types vars a
+      by : (o : Option Check) → option_map (site_formula_at types vars t (walked types vars t) from) o ≡ Some f → WSat (well_encoded from types vars) a
       by None e = absurd (cc)
       by (Some c) e =
-          let is : site_formula_at types vars t (walked types vars t) next c ≡ f = same_Some (site_formula_at types vars t (walked types vars t) next c) f e in
-          let room : track_count types vars ≤ track_count types vars + length (walked types vars t).defined = omega arith in
-          (well_encoded-means types vars (owners-there types table) a next room finite).0
-          (encoded c (subst (λ (g : Formula). WSat g a) (sym is) sat))
+          let is : site_formula_at types vars t (walked types vars t) from c ≡ f = same_Some (site_formula_at types vars t (walked types vars t) from c) f e in
+          first-part from (well_encoded from types vars) (others c) a (subst (λ (g : Formula). WSat g a) (sym is) sat)
+
+  -- whose quantifiers bind no track of the layout
+  room : track_count types vars ≤ from
+  room = let most : track_count types vars ≤ track_count types vars + length (walked types vars t).defined = omega arith in most
+
+-- what holds of all trees follows from the formula of a site
+pub follows-site : (types : List TypeEntry) (vars : List VarEntry) (t : Triple) (site : ℕ) (f known : Formula) → HoldsOfTrees types vars known →
+    site_formula types vars t site ≡ Some f → FollowsFrom f known
+follows-site types vars t site f known holds there a finite sat =
+    holds (from types vars t a) a (room types vars t a) finite (encoded types vars t a site f there sat)
+
+pub lays-out : (types : List TypeEntry) (vars : List VarEntry) (t : Triple) → IsTypeTable types → (a : Assignment) → IsFinite a → (site : ℕ)
+    (f : Formula) → site_formula types vars t site ≡ Some f → WSat f a → LaysOut types vars a
+lays-out types vars t table a finite site f there sat =
+    (well_encoded-means types vars (owners-there types table) a (from types vars t a) (room types vars t a) finite).0
+    (encoded types vars t a site f there sat)
 
 pub lays-out-found : (types : List TypeEntry) (vars : List VarEntry) (t : Triple) (found : Found) → IsTypeTable types →
     IsLightestFailure types vars t found → LaysOut types vars (assignment_of found.tree)

@@ -8,6 +8,7 @@ ghost use Rattle.ws2s_core.specs.declared.formula.Formula.{Formula};
 ghost use Rattle.ws2s_decide.specs.declared.verdict.Verdict.{Verdict};
 ghost use Rattle.ws2s_decide.specs.Deciding.{guide_of, HasKept};
 ghost use Rattle.tree_encode.specs.Spaces as spaces;
+ghost use Rattle.tree_apart.specs.Apart.{HoldsOfTrees};
 ghost use Rattle.site_list.specs.Triples.{site_formula};
 ghost use Rattle.triple_judge.specs.declared.searching.Searched.{Searched};
 ghost use Rattle.triple_judge.specs.Judging.{ArePeaksWithin};
@@ -18,8 +19,9 @@ use crate::verdicts::verdict_at;
 use bdd_nodes::Shelf;
 use std::alloc::{AllocError, Global};
 use store_exec::Triple;
+use tree_apart::cells_apart;
 use tree_encode::Layout;
-use ws2s_core::{LabelTree, TrackList};
+use ws2s_core::{Formula, LabelTree, TrackList};
 use ws2s_decide::{Decider, Verdict};
 use ws2s_pass::PassList;
 
@@ -92,18 +94,21 @@ fn is_settled(searched: &Searched) -> bool
     }
 }
 
-/// Decides the sites with numbers below `count` in order, by one decider, until no later one counts.
+/// Decides the sites with numbers below `count` in order, by one decider, until no later one counts. The formula
+/// `of_trees` holds of all trees of stores.
 fn decide_in_order(
     alloc: Global,
     l: &Layout<'_>,
     t: &Triple,
     count: u32,
+    of_trees: &Formula,
     passes: &PassList,
     tracks: &TrackList,
     decider: &mut Decider,
     shelf: &mut Shelf,
 ) -> Result<Searched, AllocError>
-    requires { HasKept shelf.old decider.old }
+    requires kept { HasKept shelf.old decider.old }
+    requires holds { HoldsOfTrees l.now.types l.now.vars of_trees.now }
     ensures value { IfOk result (IsSearched (site_formula l.now.types l.now.vars t.now) tracks.now count) }
     ensures limit { result ≡ Ok Searched.Limit → (p : ℕ) →
         ArePeaksWithin (guide_of decider.old) (site_formula l.now.types l.now.vars t.now) p → limit_of shelf.old < p }
@@ -115,7 +120,7 @@ fn decide_in_order(
         if is_settled(&searched) {
             return Ok(searched);
         }
-        let verdict = verdict_at(alloc, l, t, site, passes, tracks, decider, shelf)?;
+        let verdict = verdict_at(alloc, l, t, site, of_trees, passes, tracks, decider, shelf)?;
         searched = with_verdict(searched, site, verdict);
     }
     Ok(searched)
@@ -144,8 +149,19 @@ pub(crate) fn decide_sites(
     ensures same_limit { limit_of shelf.new ≡ limit_of shelf.old }
 {
     let guide = l.guide(alloc)?;
+    let of_trees = cells_apart(alloc, l)?;
     let mut decider = Decider::new(alloc, guide)?;
-    let searched = decide_in_order(alloc, l, t, count, passes, tracks, &mut decider, shelf);
+    let searched = decide_in_order(
+        alloc,
+        l,
+        t,
+        count,
+        &of_trees,
+        passes,
+        tracks,
+        &mut decider,
+        shelf,
+    );
     decider.close(shelf);
     searched
 }

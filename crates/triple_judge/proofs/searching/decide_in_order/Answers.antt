@@ -8,10 +8,10 @@ use Rattle.triple_judge.proofs.searching.decide_in_order.Goals as goal
 
 pub loop-site-init : goal.loop-site-init
 loop-site-init g c =
-    going-start (site_formula c.args.l.now.types c.args.l.now.vars c.args.t.now) c.args.tracks.now c.args.shelf.now c.args.decider.now c.requires
+    going-start (site_formula c.args.l.now.types c.args.l.now.vars c.args.t.now) c.args.tracks.now c.args.shelf.now c.args.decider.now c.requires.kept
 
-pub verdict_at-requires : goal.verdict_at-requires
-verdict_at-requires g c = c.loop-site.invariant.kept
+pub verdict_at-requires-clause-kept : goal.verdict_at-requires-clause-kept
+verdict_at-requires-clause-kept g c = c.loop-site.invariant.kept
 
 pub loop-site-preserved : goal.loop-site-preserved
 loop-site-preserved g c =

@@ -4,8 +4,8 @@ use Rattle.site_list.specs.Triples.{site_formula}
 use Rattle.triple_judge.specs.Judging.{ArePeaksWithin}
 use Rattle.triple_judge.proofs.searching.decide_sites.Goals as goal
 
-pub decide_in_order-searched-requires : goal.decide_in_order-searched-requires
-decide_in_order-searched-requires g c = c.in_ok-decider.ensures.kept c.args.shelf.now c.requires
+pub decide_in_order-searched-requires-clause-kept : goal.decide_in_order-searched-requires-clause-kept
+decide_in_order-searched-requires-clause-kept g c = c.in_ok-decider.ensures.kept c.args.shelf.now c.requires
 
 pub returns-clause-limit : goal.returns-clause-limit
 returns-clause-limit g c = λ at_limit p peaks.

@@ -1,8 +1,14 @@
 use Rattle.std.proofs.Common.{◌∙◌, sym}
 use Rattle.ws2s_decide.specs.Deciding.{guide_of}
 use Rattle.site_list.specs.Triples.{site_formula}
+use Rattle.triple_judge.proofs.FailingLemmas.{follows-site}
 use Rattle.triple_judge.proofs.SearchingLemmas.{verdict-of, above-peaks}
 use Rattle.triple_judge.proofs.verdicts.verdict_at.Goals as goal
+
+pub verdict_on-requires-clause-follows : goal.verdict_on-requires-clause-follows
+verdict_on-requires-clause-follows g c =
+    follows-site c.args.l.now.types c.args.l.now.vars c.args.t.now c.args.site c.in-Some.formula c.args.of_trees.now c.requires.holds
+    (sym c.in_ok-formula.ensures.value ∙ c.in-Some.is)
 
 pub returns-in_ok-verdict-in-Some-clause-value : goal.returns-in_ok-verdict-in-Some-clause-value
 returns-in_ok-verdict-in-Some-clause-value g c =
