@@ -57,13 +57,7 @@ fn easier_than(
     ensures kept { Extends interner.old interner.new }
 {
     match easier(alloc, interner, id, weigh) {
-        Ok(made) => {
-            if made == id {
-                None
-            } else {
-                Some(made)
-            }
-        }
+        Ok(made) => { if made == id { None } else { Some(made) } }
         Err(_) => None,
     }
 }
