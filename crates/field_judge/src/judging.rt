@@ -10,7 +10,7 @@ ghost use Rattle.field_judge.specs.Judging.{HasFieldPeak, IsLightestFork, IsLeas
 
 use crate::forks::first_fork;
 use crate::variables::one_each;
-use crate::verdicts::verdict_on;
+use crate::verdicts::verdict_alone;
 use crate::weighing::weighed;
 use bdd_nodes::Shelf;
 use graph_routes::field_formula;
@@ -71,7 +71,7 @@ fn judge_laid_out(
     let guide = l.guide(alloc)?;
     let tracks = weighed(alloc, l)?;
     let formula = field_formula(alloc, l, f)?;
-    match verdict_on(alloc, &formula, passes, &guide, &tracks, shelf)? {
+    match verdict_alone(alloc, guide, &formula, passes, &tracks, shelf)? {
         Verdict::None => Ok(FieldJudged::Functional),
         Verdict::Witness(tree, _) => {
             let (store, cell) = fork_of(alloc, l, f, &tree)?;

@@ -1,6 +1,7 @@
 //! Judging a pointer field: it is functional, or a least backbone has a cell with two destinations for it.
 //!
-//! `specs/Judging.antt` says when each answer stands, and `specs/OneEach.antt` over which variables that backbone is.
+//! `specs/Judging.antt` says when each answer stands, and `specs/OneEach.antt` over which variables that backbone is. How a formula
+//! comes to its verdict by way of passes, and which tracks are weighed, is the same for triples.
 #![tactic(auto)]
 
 mod forks;
@@ -12,4 +13,5 @@ mod weighing;
 
 pub use judging::{FieldJudged, judge_field};
 pub use variables::one_each;
+pub use verdicts::verdict_on;
 pub use weighing::weighed;

@@ -5,38 +5,90 @@ ghost use Rattle.bdd_nodes.specs.Shelf.{limit_of};
 ghost use Rattle.gta_keep.specs.Holding.{HasNoTables};
 ghost use Rattle.ws2s_theory.specs.Peaks.{HasPeak};
 ghost use Rattle.ws2s_decide.specs.declared.verdict.Verdict.{Verdict};
-ghost use Rattle.ws2s_decide.specs.Deciding.{IsVerdict};
+ghost use Rattle.ws2s_decide.specs.Deciding.{IsVerdict, guide_of, HasKept};
 
 use bdd_nodes::Shelf;
 use std::alloc::{AllocError, Global};
 use ws2s_core::{Formula, Guide, TrackList};
-use ws2s_decide::{Verdict, decide};
+use ws2s_decide::{Decider, Verdict};
 use ws2s_pass::{PassList, apply};
 
-/// The verdict on a formula: that on what the passes make of it, and where that is at the limit, that on the formula as it
-/// stands. So a limit is licensed by the Peak of the formula itself, whatever the passes are.
-///
-/// # Errors
-///
-/// Want of memory, as for `decide`.
-pub(crate) fn verdict_on(
+/// The verdict on what the passes make of a formula, which is one on the formula too. A limit says nothing of the formula's
+/// own Peak.
+fn verdict_by_passes(
     alloc: Global,
     formula: &Formula,
     passes: &PassList,
-    guide: &Guide,
+    tracks: &TrackList,
+    decider: &mut Decider,
+    shelf: &mut Shelf,
+) -> Result<Verdict, AllocError>
+    requires { HasKept shelf.old decider.old }
+    ensures value { IfOk result (IsVerdict tracks.now formula.now) }
+    ensures kept { HasKept shelf.new decider.new }
+    ensures guide { guide_of decider.new ≡ guide_of decider.old }
+    ensures same_limit { limit_of shelf.new ≡ limit_of shelf.old }
+{
+    let easier = apply(alloc, passes, formula)?;
+    let verdict = decider.decide(alloc, &easier, tracks, shelf)?;
+    Ok(verdict)
+}
+
+/// The verdict on a formula: that on what the passes make of it, and where that is at the limit or wants memory, that on the
+/// formula as it stands. So a limit is licensed by the Peak of the formula itself, whatever the passes are.
+///
+/// # Errors
+///
+/// Want of memory, as for [`Decider::decide`] on the formula as it stands. What the passes want of memory, and what they make,
+/// ends nothing.
+pub fn verdict_on(
+    alloc: Global,
+    formula: &Formula,
+    passes: &PassList,
+    tracks: &TrackList,
+    decider: &mut Decider,
+    shelf: &mut Shelf,
+) -> Result<Verdict, AllocError>
+    requires { HasKept shelf.old decider.old }
+
+    // The answer.
+    ensures value { IfOk result (IsVerdict tracks.now formula.now) }
+    ensures limit { result ≡ Ok Verdict.Limit → (p : ℕ) → HasPeak (guide_of decider.old) formula.now p → limit_of shelf.old < p }
+
+    // What the call leaves, whatever it answers.
+    ensures kept { HasKept shelf.new decider.new }
+    ensures guide { guide_of decider.new ≡ guide_of decider.old }
+    ensures same_limit { limit_of shelf.new ≡ limit_of shelf.old }
+{
+    match verdict_by_passes(alloc, formula, passes, tracks, decider, shelf) {
+        Ok(Verdict::None) => Ok(Verdict::None),
+        Ok(Verdict::Witness(tree, weight)) => Ok(Verdict::Witness(tree, weight)),
+        Ok(Verdict::Limit) | Err(_) => decider.decide(alloc, formula, tracks, shelf),
+    }
+}
+
+/// The verdict on a formula under the guide, by a decider for this formula alone.
+///
+/// # Errors
+///
+/// Want of memory, as for [`verdict_on`].
+pub(crate) fn verdict_alone(
+    alloc: Global,
+    guide: Guide,
+    formula: &Formula,
+    passes: &PassList,
     tracks: &TrackList,
     shelf: &mut Shelf,
 ) -> Result<Verdict, AllocError>
     requires { HasNoTables shelf.old }
     ensures value { IfOk result (IsVerdict tracks.now formula.now) }
-    ensures limit { result ≡ Ok Verdict.Limit → (p : ℕ) → HasPeak guide.now formula.now p → limit_of shelf.old < p }
+    ensures limit { result ≡ Ok Verdict.Limit → (p : ℕ) → HasPeak guide formula.now p → limit_of shelf.old < p }
     ensures tables { HasNoTables shelf.new }
     ensures same_limit { limit_of shelf.new ≡ limit_of shelf.old }
 {
-    let easier = apply(alloc, passes, formula)?;
-    match decide(alloc, &easier, guide, tracks, shelf)? {
-        Verdict::None => Ok(Verdict::None),
-        Verdict::Witness(tree, weight) => Ok(Verdict::Witness(tree, weight)),
-        Verdict::Limit => decide(alloc, formula, guide, tracks, shelf),
-    }
+    let decider = Decider::new(alloc, guide)?;
+    let mut decider = decider.used_once();
+    let verdict = verdict_on(alloc, formula, passes, tracks, &mut decider, shelf);
+    decider.close(shelf);
+    verdict
 }

@@ -2,53 +2,28 @@
 
 ghost use Rattle.std.specs.Prelude.{◌≡◌, ◌<◌, ℕ, Ok, IfOk};
 ghost use Rattle.bdd_nodes.specs.Shelf.{limit_of};
-ghost use Rattle.ws2s_theory.specs.Peaks.{HasPeak};
 ghost use Rattle.ws2s_decide.specs.declared.verdict.Verdict.{Verdict};
-ghost use Rattle.ws2s_decide.specs.Deciding.{IsVerdict, guide_of, HasKept};
+ghost use Rattle.ws2s_decide.specs.Deciding.{guide_of, HasKept};
 ghost use Rattle.site_list.specs.Triples.{site_formula};
 ghost use Rattle.triple_judge.specs.Judging.{ArePeaksWithin};
 ghost use Rattle.triple_judge.specs.Searching.{IsVerdictAt};
 
 use bdd_nodes::Shelf;
+use field_judge::verdict_on;
 use pred_transform::triple_formula;
 use std::alloc::{AllocError, Global};
 use store_exec::Triple;
 use tree_encode::Layout;
-use ws2s_core::{Formula, TrackList};
+use ws2s_core::TrackList;
 use ws2s_decide::{Decider, Verdict};
-use ws2s_pass::{PassList, apply};
-
-/// The verdict on a formula: that on what the passes make of it, and where that is at the limit, that on the formula as it
-/// stands. So a limit is licensed by the Peak of the formula itself, whatever the passes are.
-fn verdict_on(
-    alloc: Global,
-    formula: &Formula,
-    passes: &PassList,
-    tracks: &TrackList,
-    decider: &mut Decider,
-    shelf: &mut Shelf,
-) -> Result<Verdict, AllocError>
-    requires { HasKept shelf.old decider.old }
-    ensures value { IfOk result (IsVerdict tracks.now formula.now) }
-    ensures limit { result ≡ Ok Verdict.Limit → (p : ℕ) → HasPeak (guide_of decider.old) formula.now p → limit_of shelf.old < p }
-    ensures kept { HasKept shelf.new decider.new }
-    ensures guide { guide_of decider.new ≡ guide_of decider.old }
-    ensures same_limit { limit_of shelf.new ≡ limit_of shelf.old }
-{
-    let easier = apply(alloc, passes, formula)?;
-    match decider.decide(alloc, &easier, tracks, shelf)? {
-        Verdict::None => Ok(Verdict::None),
-        Verdict::Witness(tree, weight) => Ok(Verdict::Witness(tree, weight)),
-        Verdict::Limit => decider.decide(alloc, formula, tracks, shelf),
-    }
-}
+use ws2s_pass::PassList;
 
 /// The verdict on the formula of the site with this number, counted from 0. A site that isn't there has no formula, so nothing
 /// satisfies it.
 ///
 /// # Errors
 ///
-/// Want of memory, as for [`triple_formula`] and [`Decider::decide`].
+/// Want of memory, as for [`triple_formula`] and [`verdict_on`].
 pub(crate) fn verdict_at(
     alloc: Global,
     l: &Layout<'_>,

@@ -47,6 +47,15 @@ impl Decider {
         })
     }
 
+    /// The same decider, for one formula: of what is built for it, what doesn't come again in it isn't kept.
+    pub fn used_once(mut self) -> Decider
+        ensures guide { guide_of result ≡ guide_of self }
+        ensures kept { (shelf : Contents) → HasKept shelf self → HasKept shelf result }
+    {
+        self.once = true;
+        self
+    }
+
     /// Decides a formula: [`Verdict::None`] exactly where no assignment satisfies it; otherwise a tree that satisfies it,
     /// of least weight on the tracks `weigh`, with that weight, a track that is given more than once counted once; or
     /// [`Verdict::Limit`], only where the formula's Peak exceeds the shelf's limit. Some of the automata that were built are
@@ -54,7 +63,9 @@ impl Decider {
     ///
     /// # Errors
     ///
-    /// Want of memory; also where a weight on the way, or the tree's number of nodes, has no room in its integer.
+    /// Want of memory; also where a projection on the way has no room for its sets, or a weight on the way or the tree's number
+    /// of nodes none in its integer. It is answered only where the formula as it stands ends so, by a way that stops as soon as
+    /// a limit is licensed.
     pub fn decide(
         &mut self,
         alloc: Global,
@@ -114,7 +125,7 @@ impl Decider {
 ///
 /// # Errors
 ///
-/// Want of memory; also where a weight on the way, or the tree's number of nodes, has no room in its integer.
+/// Want of memory, as for [`Decider::decide`].
 pub fn decide(
     alloc: Global,
     f: &Formula,
@@ -133,8 +144,8 @@ pub fn decide(
     ensures same_limit { limit_of shelf.new ≡ limit_of shelf.old }
 {
     let guide = copy_of(alloc, g)?;
-    let mut decider = Decider::new(alloc, guide)?;
-    decider.once = true;
+    let decider = Decider::new(alloc, guide)?;
+    let mut decider = decider.used_once();
     let verdict = decider.decide(alloc, f, weigh, shelf);
     decider.close(shelf);
     verdict

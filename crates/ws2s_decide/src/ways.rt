@@ -1,7 +1,7 @@
 //! Two ways to a verdict: by a formula that is easier to decide, and where that is at the limit or wants memory by the
 //! formula as it stands.
 
-ghost use Rattle.std.specs.Prelude.{◌≡◌, ◌<◌, ℕ, [], Some, Ok, IfOk, slice_get};
+ghost use Rattle.std.specs.Prelude.{◌≡◌, ◌<◌, ℕ, [], Some, Ok, IfOk, IfSome, slice_get};
 ghost use Rattle.bdd_nodes.specs.Shelf.{limit_of};
 ghost use Rattle.gta_theory.specs.Guides.{IsGuide};
 ghost use Rattle.ws2s_core.specs.declared.formula.Formula.{Formula};
@@ -43,9 +43,67 @@ fn easier(
     Ok(made)
 }
 
+/// The number of an easier formula than the one with the given number. `None` where that is its own easiest one, and where
+/// memory for another is wanting.
+fn easier_than(
+    alloc: Global,
+    interner: &mut Interner,
+    id: FormulaId,
+    weigh: &TrackList,
+) -> Option<FormulaId>
+    requires { (f : Formula) × (slice_get interner.old id.0 ≡ Some f) }
+    ensures value { IfSome result (λ made. (f : Formula) → slice_get interner.old id.0 ≡ Some f →
+        (g : Formula) × (slice_get interner.new made.0 ≡ Some g) × ((verdict : Verdict) → IsVerdict weigh.now g verdict → IsVerdict weigh.now f verdict)) }
+    ensures kept { Extends interner.old interner.new }
+{
+    match easier(alloc, interner, id, weigh) {
+        Ok(made) => { if made == id { None } else { Some(made) } }
+        Err(_) => None,
+    }
+}
+
+/// The verdict on a formula for which there is no easier one, by a way to the end; where that wants memory, by one that stops
+/// as soon as a limit is licensed, and so may come to a limit before it wants as much.
+///
+/// # Errors
+///
+/// Want of memory, and what a least tree has no room for, on the second of these ways.
+fn verdict_alone(
+    alloc: Global,
+    g: &Guide,
+    interner: &Interner,
+    id: FormulaId,
+    once: bool,
+    weigh: &TrackList,
+    kept: &mut Kept,
+    shelf: &mut Shelf,
+) -> Result<Verdict, NoMemory>
+    requires guide { IsGuide g.now }
+    requires there { (f : Formula) × (slice_get interner.now id.0 ≡ Some f) }
+    requires rests { Rests g.now interner.now shelf.old [] kept.old }
+    ensures value { IfOk result (λ verdict. (f : Formula) → slice_get interner.now id.0 ≡ Some f → IsVerdict weigh.now f verdict) }
+    ensures limit { result ≡ Ok Verdict.Limit → (f : Formula) (p : ℕ) → slice_get interner.now id.0 ≡ Some f → HasPeak g.now f p →
+        limit_of shelf.old < p }
+    ensures rests { Rests g.now interner.now shelf.new [] kept.new }
+    ensures same_limit { limit_of shelf.new ≡ limit_of shelf.old }
+{
+    let to_the_end = Way {
+        stops_early: false,
+        once,
+    };
+    let early = Way {
+        stops_early: true,
+        once,
+    };
+    match verdict_of(alloc, g, interner, id, to_the_end, weigh, kept, shelf) {
+        Ok(verdict) => Ok(verdict),
+        Err(_) => verdict_of(alloc, g, interner, id, early, weigh, kept, shelf),
+    }
+}
+
 /// The verdict on the formula with the number. Its Peak alone licenses a limit, so only the second way answers one, as soon
-/// as it is licensed. Want of memory on the first way is no answer either: the formula as it stands may need less, or be at
-/// the limit. A formula that is its own easiest one has one way, which goes to the end.
+/// as it is licensed. Want of memory on the first way is no answer either, also where a projection has met its room for sets:
+/// the formula as it stands may need less, or be at the limit.
 ///
 /// # Errors
 ///
@@ -77,12 +135,10 @@ pub(crate) fn decide_number(
         stops_early: true,
         once,
     };
-    let made = easier(alloc, interner, id, weigh)?;
-    if made == id {
-        return verdict_of(alloc, g, interner, id, to_the_end, weigh, kept, shelf);
-    }
-    let first = verdict_of(alloc, g, interner, made, to_the_end, weigh, kept, shelf);
-    match first {
+    let Some(made) = easier_than(alloc, interner, id, weigh) else {
+        return verdict_alone(alloc, g, interner, id, once, weigh, kept, shelf);
+    };
+    match verdict_of(alloc, g, interner, made, to_the_end, weigh, kept, shelf) {
         Ok(Verdict::None) => Ok(Verdict::None),
         Ok(Verdict::Witness(tree, weight)) => Ok(Verdict::Witness(tree, weight)),
         Ok(Verdict::Limit) | Err(_) => {

@@ -3,25 +3,31 @@ use Rattle.ws2s_decide.specs.declared.verdict.Verdict.{Verdict}
 use Rattle.ws2s_decide.proofs.WaysLemmas.{Rests-extends, there-still}
 use Rattle.ws2s_decide.proofs.ways.decide_number.Goals as goal
 
-pub returns-in_err-made-clause-rests : goal.returns-in_err-made-clause-rests
-returns-in_err-made-clause-rests c =
-    Rests-extends c.args.g.now c.args.interner.now c.easier.new.interner c.args.shelf.now [] c.args.kept.now c.easier.ensures.kept c.requires.rests
+pub verdict_alone-requires-clause-rests : goal.verdict_alone-requires-clause-rests
+verdict_alone-requires-clause-rests c =
+    Rests-extends c.args.g.now c.args.interner.now c.easier_than.new.interner c.args.shelf.now [] c.args.kept.now c.easier_than.ensures.kept c.requires.rests
+
+pub verdict_alone-requires-clause-there : goal.verdict_alone-requires-clause-there
+verdict_alone-requires-clause-there c =
+    let f = c.requires.there.0 in
+    (f, there-still c.args.interner.now c.easier_than.new.interner c.args.id.0 f c.easier_than.ensures.kept c.requires.there.1)
 
 pub verdict_of-requires-clause-rests : goal.verdict_of-requires-clause-rests
 verdict_of-requires-clause-rests c =
-    Rests-extends c.args.g.now c.args.interner.now c.easier.new.interner c.args.shelf.now [] c.args.kept.now c.easier.ensures.kept c.requires.rests
+    Rests-extends c.args.g.now c.args.interner.now c.easier_than.new.interner c.args.shelf.now [] c.args.kept.now c.easier_than.ensures.kept c.requires.rests
 
 pub verdict_of-requires-in-Ok-Limit-clause-there : goal.verdict_of-requires-in-Ok-Limit-clause-there
 verdict_of-requires-in-Ok-Limit-clause-there c =
-    (c.requires.there.0, there-still c.args.interner.now c.easier.new.interner c.args.id.0 c.requires.there.0 c.easier.ensures.kept c.requires.there.1)
+    let f = c.requires.there.0 in
+    (f, there-still c.args.interner.now c.easier_than.new.interner c.args.id.0 f c.easier_than.ensures.kept c.requires.there.1)
 
 pub returns-in-Ok-None-clause-value : goal.returns-in-Ok-None-clause-value
 returns-in-Ok-None-clause-value c = λ f there.
-    let made = c.in_ok-made.ensures.value f there in
+    let made = c.in-Some.ensures.value f there in
     made.2 Verdict.None (rw c.in-Ok-None.field-0-is at c.in-Ok-None.ensures.value made.0 made.1)
 
 pub returns-in-Ok-Witness-clause-value : goal.returns-in-Ok-Witness-clause-value
 returns-in-Ok-Witness-clause-value c = λ f there.
-    let made = c.in_ok-made.ensures.value f there in
+    let made = c.in-Some.ensures.value f there in
     made.2 (Verdict.Witness c.in-Ok-Witness.tree c.in-Ok-Witness.weight)
     (rw c.in-Ok-Witness.field-0-is at c.in-Ok-Witness.ensures.value made.0 made.1)

@@ -1,0 +1,14 @@
+use Rattle.std.proofs.Common.{◌∙◌, sym, subst}
+use Rattle.gta_theory.specs.Guides.{Spaces}
+use Rattle.ws2s_theory.specs.Peaks.{HasPeak}
+use Rattle.field_judge.proofs.verdicts.verdict_alone.Goals as goal
+
+pub verdict_on-verdict-requires : goal.verdict_on-verdict-requires
+verdict_on-verdict-requires g c =
+    c.used_once-decider.ensures.kept c.args.shelf.now (c.in_ok-decider.ensures.kept c.args.shelf.now c.requires)
+
+-- the decider is under the guide
+pub returns-clause-limit : goal.returns-clause-limit
+returns-clause-limit g c = λ at_limit p peak.
+    c.verdict_on-verdict.ensures.limit at_limit p
+    (subst (λ (g : Spaces). HasPeak g c.args.formula.now p) (sym (c.used_once-decider.ensures.guide ∙ c.in_ok-decider.ensures.guide)) peak)
