@@ -5,4 +5,10 @@ pub returns-clause-kept : goal.returns-clause-kept
 returns-clause-kept c = λ shelf none.
     let rests = Rests-none c.args.guide [] shelf none in
     rw c.in_ok-kept.ensures
-    (record { is_shelf = rests.holds.is_shelf; each = rests.holds.each; tables = rests.holds.tables; minimal = rests.kept_for; first = c.new-first.ensures _ })
+    (record {
+      is_shelf = rests.holds.is_shelf;
+      each = rests.holds.each;
+      tables = rests.holds.tables;
+      minimal = rests.kept_for;
+      first = c.new-2.ensures _;
+    })
