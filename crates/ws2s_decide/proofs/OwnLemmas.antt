@@ -13,7 +13,7 @@ use Rattle.ws2s_decide.specs.Going.{Rests}
 use Rattle.ws2s_decide.specs.Own.{HoldsItsOwn, IsReady}
 use Rattle.ws2s_decide.proofs.WaysLemmas.{Rests-extends}
 
-none-by_test : (b : Bool) → (b ≡ true → ⊥) → 0 ≡ (if b then 1 else 0)
+none-by_test : (b : Bool) → (b ≡ true → ⊥) → ◌≡◌ {A = ℕ} 0 (if b then 1 else 0)
 none-by_test true none = absurd (none refl)
 none-by_test false none = refl
 

@@ -56,11 +56,7 @@ impl Decider {
     /// # Errors
     ///
     /// Want of memory.
-    pub fn with_first(
-        alloc: Global,
-        guide: Guide,
-        first_guide: Guide,
-    ) -> Result<Decider, NoMemory>
+    pub fn with_first(alloc: Global, guide: Guide, first_guide: Guide) -> Result<Decider, NoMemory>
         ensures guide { IfOk result (λ decider. guide_of decider ≡ guide) }
         ensures kept { IfOk result (λ decider. (shelf : Contents) → HasNoTables shelf → HasKept shelf decider) }
     {

@@ -1,4 +1,3 @@
-use Rattle.std.proofs.Common.{max}
 use Rattle.gta_keep.proofs.HoldingLemmas.{opened_has_no_tables}
 use Rattle.ws2s_decide.proofs.OwnLemmas.{Rests-none}
 use Rattle.ws2s_decide.proofs.first_way.open_room.Goals as goal
