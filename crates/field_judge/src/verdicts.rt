@@ -84,7 +84,7 @@ pub fn verdict_on(
     }
 }
 
-/// The verdict on a formula under the guide, by a decider for this formula alone.
+/// The verdict on a formula under the guide, by a decider for this formula alone, which tries easier ones under the first guide.
 ///
 /// # Errors
 ///
@@ -92,6 +92,7 @@ pub fn verdict_on(
 pub(crate) fn verdict_alone(
     alloc: Global,
     guide: Guide,
+    first_guide: Guide,
     formula: &Formula,
     known: &Formula,
     passes: &PassList,
@@ -105,7 +106,7 @@ pub(crate) fn verdict_alone(
     ensures tables { HasNoTables shelf.new }
     ensures same_limit { limit_of shelf.new ≡ limit_of shelf.old }
 {
-    let decider = Decider::new(alloc, guide)?;
+    let decider = Decider::with_first(alloc, guide, first_guide)?;
     let mut decider = decider.used_once();
     let verdict = verdict_on(alloc, formula, known, passes, tracks, &mut decider, shelf);
     decider.close(shelf);

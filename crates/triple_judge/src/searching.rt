@@ -17,6 +17,7 @@ ghost use Rattle.triple_judge.specs.Searching.{IsLightestOf, IsVerdictAt, IsSear
 
 use crate::verdicts::verdict_at;
 use bdd_nodes::Shelf;
+use field_judge::first_guide;
 use std::alloc::{AllocError, Global};
 use store_exec::Triple;
 use tree_apart::cells_apart;
@@ -150,7 +151,8 @@ pub(crate) fn decide_sites(
 {
     let guide = l.guide(alloc)?;
     let of_trees = cells_apart(alloc, l)?;
-    let mut decider = Decider::new(alloc, guide)?;
+    let first = first_guide(alloc, l)?;
+    let mut decider = Decider::with_first(alloc, guide, first)?;
     let searched = decide_in_order(
         alloc,
         l,
