@@ -75,7 +75,9 @@ fn judge_laid_out(
     let tracks = weighed(alloc, l)?;
     let formula = field_formula(alloc, l, f)?;
     let known = cells_apart(alloc, l)?;
-    match verdict_alone(alloc, guide, first, &formula, &known, passes, &tracks, shelf)? {
+    match verdict_alone(
+        alloc, guide, first, &formula, &known, passes, &tracks, shelf,
+    )? {
         Verdict::None => Ok(FieldJudged::Functional),
         Verdict::Witness(tree, _) => {
             let (store, cell) = fork_of(alloc, l, f, &tree)?;

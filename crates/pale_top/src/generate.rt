@@ -11,10 +11,10 @@ ghost use Rattle.pale_modes.specs.Written.{Wrote, WroteAtMost};
 ghost use Rattle.program_judge.specs.Reports.{ReportsTriples, judged_ending};
 ghost use Rattle.pale_top.specs.Generating.{Counts, Gens, Tells, gen_counts, gen_head, gen_line, gen_sizes};
 
-use crate::text::MOST_BYTES;
 use crate::check::status_of;
 use crate::check_parts::{check_fields, check_triples};
 use crate::nowhere::Nowhere;
+use crate::text::MOST_BYTES;
 use bdd_nodes::Shelf;
 use pale_generator::gen_program;
 use pale_io::{Sink, WriteStop};

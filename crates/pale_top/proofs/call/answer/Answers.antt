@@ -77,7 +77,7 @@ returns-in-Err-TooLong-clause-begins g c =
 pub returns-in-Err-TooLong-clause-whole_runs : goal.returns-in-Err-TooLong-clause-whole_runs
 returns-in-Err-TooLong-clause-whole_runs g c good asks =
     let bad = line_status (g.K.Sink.written c.args.sink.now) (g.K.Sink.written c.say.new.sink) too_long_line Text Good c.say.result c.ended.result
-        c.ended.ensures c.say.ensures.ok (subst IsAnswer (sym good) tt) good in
+    c.ended.ensures c.say.ensures.ok (subst IsAnswer (sym good) tt) good in
     absurd (cc)
 
 pub returns-in-Err-TooLong-clause-complete : goal.returns-in-Err-TooLong-clause-complete

@@ -19,14 +19,14 @@ pub returns-clause-whole_runs : goal.returns-clause-whole_runs
 returns-clause-whole_runs g c good =
     let words = map string_bytes c.args.words.now.items in
     let wrote = text_wrote words c.args.text.now (g.K.Sink.written c.args.sink.now) (g.K.Sink.written c.answer_words.new.sink)
-        c.answer_words.result c.ended.result c.ended.ensures c.answer_words.ensures.ok (subst IsAnswer (sym good) tt) in
+    c.answer_words.result c.ended.result c.ended.ensures c.answer_words.ensures.ok (subst IsAnswer (sym good) tt) in
     safe_call c.good_reports_have_safe_runs.ensures words c.args.text.now wrote.output c.ended.result wrote.allowed good
 
 pub returns-clause-complete : goal.returns-clause-complete
 returns-clause-complete g c is =
     let words = map string_bytes c.args.words.now.items in
     let wrote = text_wrote words c.args.text.now (g.K.Sink.written c.args.sink.now) (g.K.Sink.written c.answer_words.new.sink)
-        c.answer_words.result c.ended.result c.ended.ensures c.answer_words.ensures.ok is in
+    c.answer_words.result c.ended.result c.ended.ensures c.answer_words.ensures.ok is in
     decided_call (record {
       one = c.texts_have_one_reading.ensures.one;
       apart = c.texts_have_one_reading.ensures.apart;
