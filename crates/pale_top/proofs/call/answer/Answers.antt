@@ -1,5 +1,5 @@
 use Rattle.std.proofs.Common.{◌≡◌, List, ℕ, rules, refl, sym, subst, inl, map}
-use Rattle.std.specs.Prelude.{◌⊎◌, ◌≤◌, IfSome, length}
+use Rattle.std.specs.Prelude.{◌⊎◌, IfSome}
 use Rattle.std.specs.String.{string_bytes}
 use Rattle.pale_modes.specs.declared.status.Status.TheVariants.{Good, Bad, Text}
 use Rattle.pale_modes.specs.Report.{too_long_line}

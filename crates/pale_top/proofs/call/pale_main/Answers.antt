@@ -1,7 +1,6 @@
-use Rattle.std.proofs.Common.{◌≡◌, rules, refl, inl, [], map}
+use Rattle.std.proofs.Common.{rules, refl, inl, [], map}
 use Rattle.std.specs.String.{string_bytes}
 use Rattle.pale_words.specs.declared.words.Mode.TheVariants.{Check}
-use Rattle.pale_words.proofs.GivesLemmas.{not_refused, same_mode}
 use Rattle.pale_top.proofs.CallLemmas.{asks_for_none, asks_for_text, some_text, unread_answers, unread_begins}
 use Rattle.pale_top.proofs.call.pale_main.Goals as goal
 

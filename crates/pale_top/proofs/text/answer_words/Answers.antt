@@ -1,4 +1,4 @@
-use Rattle.std.proofs.Common.{rules, refl, inl, map}
+use Rattle.std.proofs.Common.{rules, map}
 use Rattle.std.specs.String.{string_bytes}
 use Rattle.pale_modes.specs.declared.status.Status.TheVariants.{Words}
 use Rattle.pale_modes.proofs.WrittenLemmas.{begun-weaker, whole-weaker, said_begun, said_whole}
