@@ -67,7 +67,7 @@ pub fn verdict_on(
     }
 }
 
-/// The verdict on a formula under the guide, by a decider for this formula alone.
+/// The verdict on a formula under the guide, by a decider for this formula alone, which tries easier ones under the first guide.
 ///
 /// # Errors
 ///
@@ -75,6 +75,7 @@ pub fn verdict_on(
 pub(crate) fn verdict_alone(
     alloc: Global,
     guide: Guide,
+    first_guide: Guide,
     formula: &Formula,
     passes: &PassList,
     tracks: &TrackList,
@@ -86,7 +87,7 @@ pub(crate) fn verdict_alone(
     ensures tables { HasNoTables shelf.new }
     ensures same_limit { limit_of shelf.new ≡ limit_of shelf.old }
 {
-    let decider = Decider::new(alloc, guide)?;
+    let decider = Decider::with_first(alloc, guide, first_guide)?;
     let mut decider = decider.used_once();
     let verdict = verdict_on(alloc, formula, passes, tracks, &mut decider, shelf);
     decider.close(shelf);

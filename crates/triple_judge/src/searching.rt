@@ -16,6 +16,7 @@ ghost use Rattle.triple_judge.specs.Searching.{IsLightestOf, IsVerdictAt, IsSear
 
 use crate::verdicts::verdict_at;
 use bdd_nodes::Shelf;
+use field_judge::first_guide;
 use std::alloc::{AllocError, Global};
 use store_exec::Triple;
 use tree_encode::Layout;
@@ -144,7 +145,8 @@ pub(crate) fn decide_sites(
     ensures same_limit { limit_of shelf.new ≡ limit_of shelf.old }
 {
     let guide = l.guide(alloc)?;
-    let mut decider = Decider::new(alloc, guide)?;
+    let first = first_guide(alloc, l)?;
+    let mut decider = Decider::with_first(alloc, guide, first)?;
     let searched = decide_in_order(alloc, l, t, count, passes, tracks, &mut decider, shelf);
     decider.close(shelf);
     searched

@@ -5,6 +5,7 @@ pub mod FitsLemmas
 pub mod KeepingLemmas
 pub mod LastLemmas
 pub mod NeedsLemmas
+pub mod OwnLemmas
 pub mod RestsLemmas
 pub mod StandsLemmas
 pub mod StepsLemmas

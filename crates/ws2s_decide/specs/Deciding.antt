@@ -16,6 +16,7 @@ use Rattle.ws2s_decide.specs.declared.verdict.Verdict.{Verdict}
 use Rattle.ws2s_decide.specs.declared.decider.Decider.{Decider}
 use Rattle.gta_keep.specs.Holding.{times, registered, kept_autos}
 use Rattle.ws2s_decide.specs.Keeping.{IsKept}
+use Rattle.ws2s_decide.specs.Own.{IsReady}
 
 -- no assignment of finite sets satisfies the formula
 abbrev pub IsUnsatisfiable : Formula → Type 0
@@ -39,9 +40,10 @@ abbrev pub guide_of : Decider → Spaces
 guide_of decider = decider.guide
 
 -- the automata that the decider keeps are there, each with a table of its own, and no other table is registered; each is a
--- minimal automaton of the formula under whose number it is kept
+-- minimal automaton of the formula under whose number it is kept; and so it is with the shelf that the decider owns
 pub record HasKept (shelf : Contents) (decider : Decider) : Type 0 where
   pub is_shelf : IsShelf shelf
   pub each : (a : AutoView) → Contains (kept_autos decider.kept) a → IsAuto decider.guide shelf a
   pub tables : (table : ℕ) → times (kept_autos decider.kept) table ≡ registered shelf table
   pub minimal : All (IsKept decider.guide shelf decider.interner) decider.kept
+  pub first : IsReady decider.interner decider.first

@@ -2,4 +2,5 @@ pub mod Counting
 pub mod Deciding
 pub mod Going
 pub mod Keeping
+pub mod Own
 pub mod Tasks

@@ -7,6 +7,7 @@ ghost use Rattle.ws2s_decide.specs.declared.verdict.Verdict.{Verdict};
 ghost use Rattle.gta_keep.specs.Holding.{HasNoTables};
 ghost use Rattle.ws2s_decide.specs.Deciding.{IsVerdict, guide_of, HasKept};
 
+use crate::first_way::FirstWay;
 use crate::verdict::Verdict;
 use crate::ways::decide_number;
 use bdd_nodes::Shelf;
@@ -18,9 +19,14 @@ use ws2s_core::{Formula, Guide, Interner, TrackList, intern};
 
 /// Decides formulas under one guide, one after the other, on one shelf: what two formulas share is built once where it is
 /// still kept. In a clause `HasKept` says that the tables of the shelf are those of the automata that it keeps.
+///
+/// Each formula is first tried by an easier one, with a second shelf, which the decider opens with the first formula that has
+/// one and owns until it is closed. It may have as many nodes as the shelf that is handed in, and 200,000 at least.
 #[derive(Drop)]
 pub struct Decider {
     guide: Guide,
+    /// Where easier formulas are tried.
+    first: FirstWay,
     /// The formulas that have a number.
     interner: Interner,
     /// Automata of formulas, by their numbers.
@@ -39,10 +45,27 @@ impl Decider {
         ensures guide { IfOk result (λ decider. guide_of decider ≡ guide) }
         ensures kept { IfOk result (λ decider. (shelf : Contents) → HasNoTables shelf → HasKept shelf decider) }
     {
+        let first_guide = copy_of(alloc, &guide)?;
+        let decider = Decider::with_first(alloc, guide, first_guide)?;
+        Ok(decider)
+    }
+
+    /// A decider under the guide, which keeps nothing yet, and tries easier formulas under a guide of their own: a verdict is
+    /// one whatever guide it was found under. Only time and memory depend on that guide.
+    ///
+    /// # Errors
+    ///
+    /// Want of memory.
+    pub fn with_first(alloc: Global, guide: Guide, first_guide: Guide) -> Result<Decider, NoMemory>
+        ensures guide { IfOk result (λ decider. guide_of decider ≡ guide) }
+        ensures kept { IfOk result (λ decider. (shelf : Contents) → HasNoTables shelf → HasKept shelf decider) }
+    {
+        let kept = Kept::new(alloc)?;
         Ok(Decider {
             guide,
+            first: FirstWay::new(first_guide),
             interner: Interner::new(alloc),
-            kept: Kept::new(alloc)?,
+            kept,
             once: false,
         })
     }
@@ -84,8 +107,6 @@ impl Decider {
         ensures guide { guide_of self.new ≡ guide_of self.old }
         ensures same_limit { limit_of shelf.new ≡ limit_of shelf.old }
     {
-        // Only for its clause `guide`.
-        let _ = self.guide.spaces();
         let id = intern(alloc, &mut self.interner, f)?;
         decide_number(
             alloc,
@@ -94,12 +115,13 @@ impl Decider {
             id,
             self.once,
             weigh,
+            &mut self.first,
             &mut self.kept,
             shelf,
         )
     }
 
-    /// Releases all that is kept. Takes no memory.
+    /// Releases all that is kept, and gives the memory of the second shelf back. Takes no memory.
     pub fn close(self, shelf: &mut Shelf)
         requires { HasKept shelf.old self }
         ensures tables { HasNoTables shelf.new }
@@ -107,11 +129,13 @@ impl Decider {
     {
         let Decider {
             guide,
+            first,
             interner,
             mut kept,
             once: _,
         } = self;
         drop(guide);
+        drop(first);
         drop(interner);
         kept.release_all(shelf);
         drop(kept);

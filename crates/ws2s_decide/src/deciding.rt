@@ -3,7 +3,6 @@
 ghost use Rattle.std.specs.Prelude.{◌≡◌, ◌<◌, ℕ, [], Some, Ok, IfOk, slice_get};
 ghost use Rattle.bdd_nodes.specs.Shelf.{IsShelf, limit_of};
 ghost use Rattle.bdd_nodes.specs.Changes.{DropsTable};
-ghost use Rattle.gta_theory.specs.Guides.{IsGuide};
 ghost use Rattle.gta_core.specs.Auto.{IsAuto};
 ghost use Rattle.ws2s_core.specs.declared.formula.Formula.{Formula};
 ghost use Rattle.ws2s_theory.specs.Peaks.{HasPeak};
@@ -38,7 +37,6 @@ pub(crate) fn verdict_of(
     kept: &mut Kept,
     shelf: &mut Shelf,
 ) -> Result<Verdict, NoMemory>
-    requires guide { IsGuide g.now }
     requires there { (f : Formula) × (slice_get interner.now id.0 ≡ Some f) }
     requires rests { Rests g.now interner.now shelf.old [] kept.old }
     ensures value { IfOk result (λ verdict. (f : Formula) → slice_get interner.now id.0 ≡ Some f → IsVerdict weigh.now f verdict) }
@@ -47,6 +45,8 @@ pub(crate) fn verdict_of(
     ensures rests { Rests g.now interner.now shelf.new [] kept.new }
     ensures same_limit { limit_of shelf.new ≡ limit_of shelf.old }
 {
+    // Only for its clause `guide`.
+    let _ = g.spaces();
     match automaton_of(alloc, g, interner, id, way, kept, shelf) {
         Ok(auto) => verdict_by(alloc, g, auto, weigh, shelf),
         Err(Stop::Limit) => Ok(Verdict::Limit),

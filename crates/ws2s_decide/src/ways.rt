@@ -3,15 +3,16 @@
 
 ghost use Rattle.std.specs.Prelude.{◌≡◌, ◌<◌, ℕ, [], Some, Ok, IfOk, IfSome, slice_get};
 ghost use Rattle.bdd_nodes.specs.Shelf.{limit_of};
-ghost use Rattle.gta_theory.specs.Guides.{IsGuide};
 ghost use Rattle.ws2s_core.specs.declared.formula.Formula.{Formula};
 ghost use Rattle.ws2s_core.specs.Nodes.{Extends};
 ghost use Rattle.ws2s_theory.specs.Peaks.{HasPeak};
 ghost use Rattle.ws2s_decide.specs.declared.verdict.Verdict.{Verdict};
 ghost use Rattle.ws2s_decide.specs.Going.{Rests};
 ghost use Rattle.ws2s_decide.specs.Deciding.{IsVerdict};
+ghost use Rattle.ws2s_decide.specs.Own.{IsReady};
 
 use crate::deciding::verdict_of;
+use crate::first_way::FirstWay;
 use crate::verdict::Verdict;
 use crate::way::Way;
 use bdd_nodes::Shelf;
@@ -78,7 +79,6 @@ fn verdict_alone(
     kept: &mut Kept,
     shelf: &mut Shelf,
 ) -> Result<Verdict, NoMemory>
-    requires guide { IsGuide g.now }
     requires there { (f : Formula) × (slice_get interner.now id.0 ≡ Some f) }
     requires rests { Rests g.now interner.now shelf.old [] kept.old }
     ensures value { IfOk result (λ verdict. (f : Formula) → slice_get interner.now id.0 ≡ Some f → IsVerdict weigh.now f verdict) }
@@ -101,9 +101,10 @@ fn verdict_alone(
     }
 }
 
-/// The verdict on the formula with the number. Its Peak alone licenses a limit, so only the second way answers one, as soon
-/// as it is licensed. Want of memory on the first way is no answer either, also where a projection has met its room for sets:
-/// the formula as it stands may need less, or be at the limit.
+/// The verdict on the formula with the number: by an easier one, under the first way's guide and in its room, and where that
+/// is at the limit or wants memory by the formula as it stands. Its Peak on this shelf alone licenses a limit, so only the second
+/// way answers one, as soon as it is licensed. Want of memory on the first way is no answer either, also where a projection has
+/// met its room for sets: the formula as it stands may need less, or be at the limit.
 ///
 /// # Errors
 ///
@@ -115,22 +116,20 @@ pub(crate) fn decide_number(
     id: FormulaId,
     once: bool,
     weigh: &TrackList,
+    first: &mut FirstWay,
     kept: &mut Kept,
     shelf: &mut Shelf,
 ) -> Result<Verdict, NoMemory>
-    requires guide { IsGuide g.now }
     requires there { (f : Formula) × (slice_get interner.old id.0 ≡ Some f) }
     requires rests { Rests g.now interner.old shelf.old [] kept.old }
+    requires ready { IsReady interner.old first.old }
     ensures value { IfOk result (λ verdict. (f : Formula) → slice_get interner.old id.0 ≡ Some f → IsVerdict weigh.now f verdict) }
     ensures limit { result ≡ Ok Verdict.Limit → (f : Formula) (p : ℕ) → slice_get interner.old id.0 ≡ Some f → HasPeak g.now f p →
         limit_of shelf.old < p }
     ensures rests { Rests g.now interner.new shelf.new [] kept.new }
+    ensures ready { IsReady interner.new first.new }
     ensures same_limit { limit_of shelf.new ≡ limit_of shelf.old }
 {
-    let to_the_end = Way {
-        stops_early: false,
-        once,
-    };
     let early = Way {
         stops_early: true,
         once,
@@ -138,7 +137,8 @@ pub(crate) fn decide_number(
     let Some(made) = easier_than(alloc, interner, id, weigh) else {
         return verdict_alone(alloc, g, interner, id, once, weigh, kept, shelf);
     };
-    match verdict_of(alloc, g, interner, made, to_the_end, weigh, kept, shelf) {
+    let limit = shelf.limit();
+    match first.verdict(alloc, interner, made, once, weigh, limit) {
         Ok(Verdict::None) => Ok(Verdict::None),
         Ok(Verdict::Witness(tree, weight)) => Ok(Verdict::Witness(tree, weight)),
         Ok(Verdict::Limit) | Err(_) => {

@@ -1,5 +1,6 @@
 use Rattle.std.proofs.Common.{[]}
 use Rattle.ws2s_decide.specs.declared.verdict.Verdict.{Verdict}
+use Rattle.ws2s_decide.proofs.OwnLemmas.{IsReady-extends}
 use Rattle.ws2s_decide.proofs.WaysLemmas.{Rests-extends, there-still}
 use Rattle.ws2s_decide.proofs.ways.decide_number.Goals as goal
 
@@ -12,12 +13,21 @@ verdict_alone-requires-clause-there c =
     let f = c.requires.there.0 in
     (f, there-still c.args.interner.now c.easier_than.new.interner c.args.id.0 f c.easier_than.ensures.kept c.requires.there.1)
 
+pub verdict-requires-clause-there : goal.verdict-requires-clause-there
+verdict-requires-clause-there c =
+    let made = c.in-Some.ensures.value c.requires.there.0 c.requires.there.1 in
+    (made.0, made.1)
+
+pub verdict-requires-clause-ready : goal.verdict-requires-clause-ready
+verdict-requires-clause-ready c =
+    IsReady-extends c.args.interner.now c.easier_than.new.interner c.args.first.now c.easier_than.ensures.kept c.requires.ready
+
 pub verdict_of-requires-clause-rests : goal.verdict_of-requires-clause-rests
 verdict_of-requires-clause-rests c =
     Rests-extends c.args.g.now c.args.interner.now c.easier_than.new.interner c.args.shelf.now [] c.args.kept.now c.easier_than.ensures.kept c.requires.rests
 
-pub verdict_of-requires-in-Ok-Limit-clause-there : goal.verdict_of-requires-in-Ok-Limit-clause-there
-verdict_of-requires-in-Ok-Limit-clause-there c =
+pub verdict_of-requires-clause-there : goal.verdict_of-requires-clause-there
+verdict_of-requires-clause-there c =
     let f = c.requires.there.0 in
     (f, there-still c.args.interner.now c.easier_than.new.interner c.args.id.0 f c.easier_than.ensures.kept c.requires.there.1)
 
