@@ -21,7 +21,7 @@ use Rattle.bdd_walk.specs.Progress.{Call, Progress, Works}
 use Rattle.bdd_walk.proofs.StandsLemmas.{KeepsAnswers-trans, Stands-same, Stands-leaf, IsSideFor-of_stands}
 use Rattle.bdd_walk.proofs.StandsLemmas.{answers-choice, IsPart-whole, IsPart-same, IsPart-low, IsPart-high}
 use Rattle.bdd_walk.proofs.AddsLemmas.{AddsNew-none, AddsNew-answers, AddsNew-made, Exceeds-full}
-use Rattle.bdd_walk.proofs.WaitsLemmas.{IsMemo-insert, AllWait-kept, AllWait-push, AllWait-pop, AllWait-none}
+use Rattle.bdd_walk.proofs.WaitsLemmas.{IsMemo-insert, IsMemo-seen, AllWait-kept, AllWait-push, AllWait-pop, AllWait-none}
 use Rattle.bdd_nodes.proofs.CallerLemmas.{Keeps-refl}
 
 cases_answer : (o : Option ℕ) → (o ≡ None) ⊎ ((answer : ℕ) × (o ≡ Some answer))
@@ -55,6 +55,10 @@ AnswersOnly-part like whole asking other answers more part same only = λ states
     let given = only states answer there absent in
     (with_below part.below part.fixed given.0, subst (λ (list : List ℕ). like list states) (same given.0 ∙ part.asks given.0) given.1)
 
+same-asking : (asking : Asking) → AsksSame asking asking
+unfolding AsksSame
+same-asking asking = λ label. refl
+
 module _ {K : Type 0} (eq : K → K → Bool) (asked : K → Asking) (is_in : K → Bool) (call : Call) (shelf : Contents)
     (answers : Answers) (memo : Memo K) (stack : List (Frame K)) where
   module _ (key : K) (works : Works eq asked is_in call shelf answers memo stack (Visit key)) where
@@ -78,6 +82,20 @@ module _ {K : Type 0} (eq : K → K → Bool) (asked : K → Asking) (is_in : K 
         tables = works.progress.tables;
         adds = AddsNew-answers call shelf answers more kept works.progress.adds;
         answers_kept = KeepsAnswers-trans call.answers answers more works.progress.answers_kept kept;
+      }
+
+      -- the rule has answered for leaves, and nothing is kept
+      pub works-leaves : (states : List ℕ) → ((label : Label) → asked key label ≡ states) → (made : NodeRef) (answer : ℕ) → IsLeaf made answer →
+          more states ≡ Some answer → Works eq asked is_in call shelf more memo stack (Done made)
+      works-leaves states asks made answer leaf answered = record {
+        progress = progress-leaf;
+        kept = IsMemo-seen eq asked asked is_in is_in shelf shelf answers more memo (Keeps-refl shelf) kept (λ other inside. inside)
+            (λ other inside. same-asking (asked other)) works.kept;
+        underway = record {
+          focus = asked key;
+          result = Stands-leaf shelf more (asked key) made states answer leaf answered asks;
+          waits = AllWait-kept asked is_in call.whole shelf shelf answers more (Keeps-refl shelf) kept (reverse stack) (asked key) works.underway.1;
+        };
       }
 
       -- the rule has answered

@@ -5,6 +5,7 @@ ghost use Rattle.std.specs.List.{list_all};
 ghost use Rattle.bdd_nodes.specs.Changes.{is_valid};
 ghost use Rattle.bdd_walk.specs.Sides.{side_at};
 
+use crate::rule::StateList;
 use crate::sides::{first_track, push_sides, states_of};
 use crate::walk::{Step, Walk};
 use bdd_nodes::{NodeRef, Shelf};
@@ -88,6 +89,15 @@ impl Walk for ManyRoots {
     ghost stays_in = { λ walk old new roots keeps inside. valid-kept old new keeps roots.items inside };
 
     ghost asks_still = { λ walk old new roots keeps inside. many-asks_still old new keeps walk.dropped (half_of roots.items) roots.items inside };
+
+    fn leaves(
+        &self,
+        _alloc: Global,
+        _key: &Vec<NodeRef>,
+        _states: &mut StateList,
+    ) -> Result<bool, AllocError> {
+        Ok(false)
+    }
 
     fn step(
         &self,

@@ -1,5 +1,6 @@
 //! Going down from one reference.
 
+use crate::rule::StateList;
 use crate::sides::{side_of, states_of};
 use crate::walk::{Step, Walk};
 use bdd_nodes::{NodeRef, Shelf};
@@ -55,6 +56,15 @@ impl Walk for OneRoot {
     ghost stays_in = { λ walk. one-stays_in };
 
     ghost asks_still = { λ walk. one-asks_still (fixed_label walk.fixed) };
+
+    fn leaves(
+        &self,
+        _alloc: Global,
+        _key: &NodeRef,
+        _states: &mut StateList,
+    ) -> Result<bool, AllocError> {
+        Ok(false)
+    }
 
     fn step(
         &self,

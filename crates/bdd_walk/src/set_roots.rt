@@ -117,6 +117,15 @@ impl Walk for SetRoots {
 
     ghost asks_still = { λ walk old new roots keeps inside. sets-asks_still old new keeps walk.dropped roots.items inside };
 
+    fn leaves(
+        &self,
+        _alloc: Global,
+        _key: &Vec<NodeRef>,
+        _states: &mut StateList,
+    ) -> Result<bool, AllocError> {
+        Ok(false)
+    }
+
     fn step(
         &self,
         alloc: Global,

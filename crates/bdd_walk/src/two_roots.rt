@@ -1,10 +1,11 @@
 //! Going down from two references.
 
-ghost use Rattle.std.specs.Prelude.{◌≡◌, [], ◌∷◌, map, IsTrue};
+ghost use Rattle.std.specs.Prelude.{◌≡◌, [], ◌∷◌, map, IsTrue, OnOk};
 ghost use Rattle.std.specs.List.{list_all};
 ghost use Rattle.bdd_nodes.specs.Changes.{is_valid};
 ghost use Rattle.bdd_walk.specs.Sides.{side_at};
 
+use crate::rule::StateList;
 use crate::sides::{earlier, side_of, states_of};
 use crate::walk::{Step, Walk};
 use bdd_nodes::{NodeRef, Shelf};
@@ -73,6 +74,20 @@ fn sides_of(shelf: &Shelf, pair: RefPair, track: u32, bit: bool) -> RefPair
     }
 }
 
+/// Two states alone in the list, which takes memory only where it had not two.
+#[inline]
+fn put_two(alloc: Global, states: &mut StateList, left: u32, right: u32) -> Result<(), AllocError>
+    ensures { OnOk result (states.new ≡ left ∷ right ∷ []) }
+{
+    if states.len() != 2 {
+        *states = StateList::from_slice(alloc, &[left, right])?;
+        return Ok(());
+    }
+    states.set(0, left);
+    states.set(1, right);
+    Ok(())
+}
+
 impl Walk for TwoRoots {
     ghost use Rattle.bdd_walk.specs.Asked.{leaves_of};
     ghost use Rattle.bdd_walk.specs.Sides.{weight_of};
@@ -93,6 +108,22 @@ impl Walk for TwoRoots {
     ghost stays_in = { λ walk old new pair keeps inside. valid-kept old new keeps (pair.left ∷ pair.right ∷ []) inside };
 
     ghost asks_still = { λ walk old new pair keeps inside. leaves-still old new keeps (pair.left ∷ pair.right ∷ []) inside };
+
+    #[inline]
+    fn leaves(
+        &self,
+        alloc: Global,
+        pair: &RefPair,
+        states: &mut StateList,
+    ) -> Result<bool, AllocError> {
+        match (pair.left.state(), pair.right.state()) {
+            (Some(left), Some(right)) => {
+                put_two(alloc, states, left, right)?;
+                Ok(true)
+            }
+            _ => Ok(false),
+        }
+    }
 
     fn step(
         &self,

@@ -54,6 +54,8 @@ pub(crate) struct Kept<K: Eq + Hash> {
     pub(crate) stack: Vec<Frame<K>>,
     /// Where there are more results than so many, they are let go of, and made anew as they are asked for.
     pub(crate) most: usize,
+    /// The states of leaves, for one question after the other.
+    pub(crate) leaf: StateList,
 }
 
 impl<K: Eq + Hash + Drop> Kept<K> {
@@ -65,6 +67,7 @@ impl<K: Eq + Hash + Drop> Kept<K> {
             memo: HashMap::new(alloc),
             stack: Vec::new(alloc),
             most: usize::MAX,
+            leaf: StateList::new(alloc),
         }
     }
 }
@@ -92,6 +95,15 @@ pub(crate) trait Walk {
     /// A number that falls from a key to its sides.
     ghost weight: { Self → Self.Key → ℕ };
 
+    /// Whether all references of a key are leaves, whose states are then put into the list. A walk that doesn't look says no.
+    fn leaves(
+        &self,
+        alloc: Global,
+        key: &Self::Key,
+        states: &mut StateList,
+    ) -> Result<bool, AllocError>
+        ensures { IfOk result (λ yes. IsTrue yes → (shelf : Contents) (label : Label) → asked self.now shelf key.now label ≡ states.new) };
+
     fn step(
         &self,
         alloc: Global,
@@ -110,7 +122,9 @@ pub(crate) trait Walk {
         IsTrue (is_in walk old key) → AsksSame (asked walk new key) (asked walk old key) };
 }
 
-/// Goes down from a key, unless it has a result. Where there are more results than so many, they are let go of first.
+/// Goes down from a key, unless the rule is asked at once for its leaves, or it has a result. Where there are more results than
+/// so many, they are let go of first.
+#[allow(clippy::too_many_arguments)]
 fn visit<W: Walk, L: LeafRule>(
     alloc: Global,
     walk: &W,
@@ -119,6 +133,7 @@ fn visit<W: Walk, L: LeafRule>(
     memo: &mut HashMap<W::Key, NodeRef>,
     stack: &mut Vec<Frame<W::Key>>,
     most: usize,
+    leaf: &mut StateList,
     key: W::Key,
 ) -> Result<Turn<W::Key>, Stop>
     requires shelf { IsShelf shelf.now }
@@ -137,6 +152,10 @@ fn visit<W: Walk, L: LeafRule>(
     ensures not_full { result ≢ Err Stop.Limit }
     ensures may_ask_still { (asked : List ℕ) → L.may_ask rule.old asked → L.may_ask rule.new asked }
 {
+    if walk.leaves(alloc, &key, leaf)? {
+        let state = rule.leaf(leaf)?;
+        return Ok(Turn::Done(Shelf::leaf(state)));
+    }
     if let Some(made) = memo.get(&key) {
         return Ok(Turn::Done(*made));
     }
@@ -237,6 +256,7 @@ pub(crate) fn join_kept<W: Walk, L: LeafRule>(
                 &mut kept.memo,
                 &mut kept.stack,
                 kept.most,
+                &mut kept.leaf,
                 key,
             )?,
             Turn::Done(made) => match kept.stack.pop() {

@@ -6,12 +6,38 @@ use Rattle.bdd_walk.specs.Steps.{IsStep}
 use Rattle.bdd_walk.specs.Waits.{visit_cost, stack_cost}
 use Rattle.bdd_walk.specs.Progress.{Works}
 use Rattle.bdd_walk.proofs.CostLemmas.{visit-done, visit-skip, visit-low}
-use Rattle.bdd_walk.proofs.TurnLemmas.{AnswersOnly-none, AnswersOnly-leaf, works-found, progress-leaf, works-leaf, works-skip, works-low, works-trimmed}
+use Rattle.bdd_walk.proofs.TurnLemmas.{AnswersOnly-none, AnswersOnly-leaf, works-found, progress-leaf}
+use Rattle.bdd_walk.proofs.TurnLemmas.{works-leaves, works-leaf, works-skip, works-low, works-trimmed}
 use Rattle.bdd_nodes.proofs.CallerLemmas.{Keeps-refl}
 use Rattle.bdd_walk.proofs.walk.visit.Goals as goal
 
 pub leaf-requires : goal.leaf-requires
-leaf-requires g c =
+leaf-requires g c = subst (g.L.LeafRule.may_ask c.args.rule.now) (c.in_ok-leaves.ensures c.if-branch.true c.args.shelf.now (λ u. false))
+    (c.requires.may_ask (λ u. false))
+
+pub returns-in_err-state-clause-progress : goal.returns-in_err-state-clause-progress
+returns-in_err-state-clause-progress g c = λ call works.
+    progress-leaf _ _ _ call c.args.shelf.now _ c.args.memo.now _ c.args.key works _ c.leaf.ensures.kept
+
+pub returns-in_err-state-clause-only : goal.returns-in_err-state-clause-only
+returns-in_err-state-clause-only g c = AnswersOnly-leaf g.L.LeafRule.like (g.W.Walk.asked c.args.walk.now c.args.shelf.now c.args.key)
+    c.leaves.new.states _ _ (c.in_ok-leaves.ensures c.if-branch.true c.args.shelf.now) c.leaf.ensures.only
+
+pub returns-then-branch-clause-progress : goal.returns-then-branch-clause-progress
+returns-then-branch-clause-progress g c = λ call works.
+    progress-leaf _ _ _ call c.args.shelf.now _ c.args.memo.now _ c.args.key works _ c.leaf.ensures.kept
+
+pub returns-then-branch-clause-works : goal.returns-then-branch-clause-works
+returns-then-branch-clause-works g c = λ call works.
+    works-leaves _ _ _ call c.args.shelf.now _ c.args.memo.now _ c.args.key works _ c.leaf.ensures.kept c.leaves.new.states
+    (c.in_ok-leaves.ensures c.if-branch.true call.shelf) c.leaf-then-branch.result c.in_ok-state.state c.leaf-then-branch.ensures c.in_ok-state.ensures.answered
+
+pub returns-then-branch-clause-only : goal.returns-then-branch-clause-only
+returns-then-branch-clause-only g c = AnswersOnly-leaf g.L.LeafRule.like (g.W.Walk.asked c.args.walk.now c.args.shelf.now c.args.key)
+    c.leaves.new.states _ _ (c.in_ok-leaves.ensures c.if-branch.true c.args.shelf.now) c.leaf.ensures.only
+
+pub leaf-requires-in-Leaf : goal.leaf-requires-in-Leaf
+leaf-requires-in-Leaf g c =
     let shelf = c.args.shelf.now in
     let walk = c.args.walk.now in
     let step = subst (IsStep (g.W.Walk.asked walk shelf) (g.W.Walk.is_in walk shelf)
@@ -28,15 +54,15 @@ returns-in-Some-clause-cost g c = visit-done (g.W.Walk.weight c.args.walk.now) c
 
 pub returns-in_err-leaf-in-Leaf-clause-progress : goal.returns-in_err-leaf-in-Leaf-clause-progress
 returns-in_err-leaf-in-Leaf-clause-progress g c = λ call works.
-    progress-leaf _ _ _ call c.args.shelf.now _ c.args.memo.now _ c.args.key works _ c.leaf.ensures.kept
+    progress-leaf _ _ _ call c.args.shelf.now _ c.args.memo.now _ c.args.key works _ c.leaf-in-Leaf.ensures.kept
 
 pub returns-in_err-insert-in-Leaf-clause-progress : goal.returns-in_err-insert-in-Leaf-clause-progress
 returns-in_err-insert-in-Leaf-clause-progress g c = λ call works.
-    progress-leaf _ _ _ call c.args.shelf.now _ c.args.memo.now _ c.args.key works _ c.leaf.ensures.kept
+    progress-leaf _ _ _ call c.args.shelf.now _ c.args.memo.now _ c.args.key works _ c.leaf-in-Leaf.ensures.kept
 
 pub returns-in_ok-insert-in-Leaf-clause-progress : goal.returns-in_ok-insert-in-Leaf-clause-progress
 returns-in_ok-insert-in-Leaf-clause-progress g c = λ call works.
-    progress-leaf _ _ _ call c.args.shelf.now _ c.args.memo.now _ c.args.key works _ c.leaf.ensures.kept
+    progress-leaf _ _ _ call c.args.shelf.now _ c.args.memo.now _ c.args.key works _ c.leaf-in-Leaf.ensures.kept
 
 pub returns-in_ok-insert-in-Leaf-clause-works : goal.returns-in_ok-insert-in-Leaf-clause-works
 returns-in_ok-insert-in-Leaf-clause-works g c = λ call was.
@@ -47,7 +73,7 @@ returns-in_ok-insert-in-Leaf-clause-works g c = λ call was.
     (g.W.Walk.weight walk) c.args.key) c.in-Leaf.is
     (c.in_ok-states.ensures call.shelf works.progress.before works.progress.keeps works.underway.0.inside) in
     works-leaf _ _ _ call c.args.shelf.now _ c.trim.new.memo _ c.args.key works _
-    c.leaf.ensures.kept c.in-Leaf.states step c.insert.new.self c.leaf-made.result
+    c.leaf-in-Leaf.ensures.kept c.in-Leaf.states step c.insert.new.self c.leaf-made.result
     c.in_ok-leaf-in-Leaf.field-0 (g.met.W.Walk.respects walk call.shelf) c.leaf-made.ensures
     c.in_ok-leaf-in-Leaf.ensures.answered c.in_ok-insert-in-Leaf.ensures.updates
 
@@ -116,7 +142,7 @@ returns-in_err-leaf-in-Leaf-clause-only g c =
     let step = subst (IsStep (g.W.Walk.asked walk shelf) (g.W.Walk.is_in walk shelf)
     (g.W.Walk.weight walk) c.args.key) c.in-Leaf.is
     (c.in_ok-states.ensures shelf c.requires.shelf (Keeps-refl shelf) c.requires.is_in) in
-    AnswersOnly-leaf g.L.LeafRule.like (g.W.Walk.asked walk shelf c.args.key) c.in-Leaf.states _ _ step c.leaf.ensures.only
+    AnswersOnly-leaf g.L.LeafRule.like (g.W.Walk.asked walk shelf c.args.key) c.in-Leaf.states _ _ step c.leaf-in-Leaf.ensures.only
 
 pub returns-in_err-insert-in-Leaf-clause-only : goal.returns-in_err-insert-in-Leaf-clause-only
 returns-in_err-insert-in-Leaf-clause-only g c =
@@ -125,7 +151,7 @@ returns-in_err-insert-in-Leaf-clause-only g c =
     let step = subst (IsStep (g.W.Walk.asked walk shelf) (g.W.Walk.is_in walk shelf)
     (g.W.Walk.weight walk) c.args.key) c.in-Leaf.is
     (c.in_ok-states.ensures shelf c.requires.shelf (Keeps-refl shelf) c.requires.is_in) in
-    AnswersOnly-leaf g.L.LeafRule.like (g.W.Walk.asked walk shelf c.args.key) c.in-Leaf.states _ _ step c.leaf.ensures.only
+    AnswersOnly-leaf g.L.LeafRule.like (g.W.Walk.asked walk shelf c.args.key) c.in-Leaf.states _ _ step c.leaf-in-Leaf.ensures.only
 
 pub returns-in_ok-insert-in-Leaf-clause-only : goal.returns-in_ok-insert-in-Leaf-clause-only
 returns-in_ok-insert-in-Leaf-clause-only g c =
@@ -134,7 +160,7 @@ returns-in_ok-insert-in-Leaf-clause-only g c =
     let step = subst (IsStep (g.W.Walk.asked walk shelf) (g.W.Walk.is_in walk shelf)
     (g.W.Walk.weight walk) c.args.key) c.in-Leaf.is
     (c.in_ok-states.ensures shelf c.requires.shelf (Keeps-refl shelf) c.requires.is_in) in
-    AnswersOnly-leaf g.L.LeafRule.like (g.W.Walk.asked walk shelf c.args.key) c.in-Leaf.states _ _ step c.leaf.ensures.only
+    AnswersOnly-leaf g.L.LeafRule.like (g.W.Walk.asked walk shelf c.args.key) c.in-Leaf.states _ _ step c.leaf-in-Leaf.ensures.only
 
 pub returns-in-Some-clause-only : goal.returns-in-Some-clause-only
 returns-in-Some-clause-only g c = AnswersOnly-none _ _
