@@ -58,18 +58,38 @@ fn answer(
     }
 }
 
-/// Writes a head as it stands in the bundle, and each line of its text with what it asks for. One list of numbered formulas is
-/// for all lines.
+/// Writes each line of a text with what it asks for.
+fn answer_lines(
+    alloc: Global,
+    head: &str,
+    text: &str,
+    interner: &mut Interner,
+    out: &mut Writer,
+) -> Result<(), Stop> {
+    for line in text.lines() {
+        out.push_all(line.as_bytes());
+        out.push(b':');
+        answer(alloc, head, line, interner, out)?;
+        out.push(b'\n');
+    }
+    Ok(())
+}
+
+/// Writes a head as it stands in the bundle, and what the lines of its text ask for. One list of numbered formulas is for all
+/// lines.
 fn answer_text(alloc: Global, head: &str, text: &str, out: &mut Writer) -> Result<(), Stop> {
     out.push_all(b"=== ");
     out.push_all(head.as_bytes());
     out.push(b'\n');
     let mut interner = Interner::new(alloc);
-    for line in text.lines() {
-        out.push_all(line.as_bytes());
-        out.push(b':');
-        answer(alloc, head, line, &mut interner, out)?;
-        out.push(b'\n');
+    answer_lines(alloc, head, text, &mut interner, out)
+}
+
+/// Writes what each text of a bundle asks for.
+fn answer_texts(alloc: Global, bundle: &str, out: &mut Writer) -> Result<(), Stop> {
+    for part in bundle.split(HEAD).skip(1) {
+        let (head, text) = part.split_once('\n').unwrap_or((part, ""));
+        answer_text(alloc, head, text, out)?;
     }
     Ok(())
 }
@@ -77,10 +97,7 @@ fn answer_text(alloc: Global, head: &str, text: &str, out: &mut Writer) -> Resul
 /// What is written for a bundle.
 fn answers(alloc: Global, bundle: &str) -> Result<Vec<u8>, Stop> {
     let mut out = Writer::new(alloc);
-    for part in bundle.split(HEAD).skip(1) {
-        let (head, text) = part.split_once('\n').unwrap_or((part, ""));
-        answer_text(alloc, head, text, &mut out)?;
-    }
+    answer_texts(alloc, bundle, &mut out)?;
     Ok(out.finish()?)
 }
 

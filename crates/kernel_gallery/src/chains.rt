@@ -1,6 +1,7 @@
 //! Lightest trees of chains: automata with many states.
 
-ghost use Rattle.std.specs.Prelude.{◌≡◌, ◌<◌, ◌≤◌, ◌*◌, IfOk, length};
+ghost use Rattle.std.specs.Prelude.{◌≡◌, ◌<◌, ◌≤◌, ◌*◌, [], ◌∷◌, IfOk, length};
+ghost use Rattle.gta_core.specs.Auto.{IsAuto};
 
 use crate::chain::chain;
 use crate::grid::grid;
@@ -8,7 +9,7 @@ use crate::lines::{number_of, word_at, write_unknown};
 use crate::looks::write_lightest;
 use bdd_nodes::Shelf;
 use bdd_walk::Stop;
-use gta_core::BoolList;
+use gta_core::{Auto, BoolList};
 use plain_data::Items;
 use plain_writer::Writer;
 use std::alloc::{AllocError, Global};
@@ -24,6 +25,19 @@ fn last_accepts(alloc: Global, states: u32) -> Result<BoolList, AllocError>
     Ok(Items::from_vec(accepting))
 }
 
+/// A chain in a grid, whose last state alone accepts.
+fn chain_in_grid(alloc: Global, rows: u32, columns: u32, shelf: &mut Shelf) -> Result<Auto, Stop>
+    requires some { 0 < rows * columns }
+    requires columns { 0 < columns }
+    requires few { rows * columns ≤ 1000000 }
+    ensures { IfOk result (IsAuto ((0, 0) ∷ []) shelf.new) }
+{
+    let states = rows * columns;
+    let functions = chain(alloc, states, shelf)?;
+    let accepting = last_accepts(alloc, states)?;
+    Ok(grid(alloc, rows, columns, functions, accepting, shelf)?)
+}
+
 /// Writes the lightest tree of a chain in a grid.
 fn write_chain(
     alloc: Global,
@@ -36,13 +50,23 @@ fn write_chain(
     requires columns { 0 < columns }
     requires few { rows * columns ≤ 1000000 }
 {
-    let g = Guide::plain(alloc)?;
     let mut shelf = Shelf::open(alloc, 200_000)?;
-    let states = rows * columns;
-    let functions = chain(alloc, states, &mut shelf)?;
-    let accepting = last_accepts(alloc, states)?;
-    let a = grid(alloc, rows, columns, functions, accepting, &mut shelf)?;
-    Ok(write_lightest(alloc, &g, &a, &shelf, word, out)?)
+    let a = chain_in_grid(alloc, rows, columns, &mut shelf)?;
+    write_lightest_over_one(alloc, &a, &shelf, word, out)
+}
+
+/// Writes the lightest tree of an automaton over the plain guide.
+fn write_lightest_over_one(
+    alloc: Global,
+    a: &Auto,
+    shelf: &Shelf,
+    word: &str,
+    out: &mut Writer,
+) -> Result<(), Stop>
+    requires { IsAuto ((0, 0) ∷ []) shelf.now a.now }
+{
+    let g = Guide::plain(alloc)?;
+    Ok(write_lightest(alloc, &g, a, shelf, word, out)?)
 }
 
 /// Writes the lightest tree of a chain: a line has the number of rows, that of columns, and `least` with tracks.

@@ -7,34 +7,70 @@ use plain_writer::Writer;
 use std::alloc::{AllocError, Global};
 use ws2s_core::{Formula, FormulaId, Interner, Node, Track, intern, intern_form};
 
-/// So many negations of `Single 0`.
-fn negations(alloc: Global, count: u32) -> Result<Formula, AllocError> {
-    let mut formula = Formula::Single(Track(0));
-    for _ in 0..count {
-        formula = Formula::not(alloc, formula)?;
-    }
-    Ok(formula)
+/// What a large formula is made of, level by level.
+#[derive(Clone, Copy)]
+enum Shape {
+    /// Negations of `Single 0`.
+    Negations,
+    /// Conjunctions that lean to the left and to the right in turn, each with a negation beside.
+    Zigzag,
+    /// `Single 0`, conjoined with itself again and again.
+    Doubled,
 }
 
-/// So many conjunctions that lean to the left and to the right in turn, each with a negation beside.
-fn zigzag(alloc: Global, count: u32) -> Result<Formula, AllocError> {
-    let mut formula = Formula::Root(Track(1));
-    for k in 0..count {
-        let beside = Formula::not(alloc, Formula::Single(Track(0)))?;
-        formula = if k % 2 == 0 {
-            Formula::and(alloc, formula, beside)?
-        } else {
-            Formula::and(alloc, beside, formula)?
-        };
+impl Shape {
+    /// The shape of that name.
+    fn of(name: &str) -> Option<Shape> {
+        match name {
+            "negations" => Some(Shape::Negations),
+            "zigzag" => Some(Shape::Zigzag),
+            "doubled" => Some(Shape::Doubled),
+            _ => None,
+        }
     }
-    Ok(formula)
+
+    /// The formula without levels.
+    fn start(self) -> Formula {
+        match self {
+            Shape::Zigzag => Formula::Root(Track(1)),
+            _ => Formula::Single(Track(0)),
+        }
+    }
 }
 
-/// `Single 0`, conjoined with itself so many times.
-fn doubled(alloc: Global, count: u32) -> Result<Formula, AllocError> {
-    let mut formula = Formula::Single(Track(0));
-    for _ in 0..count {
-        formula = Formula::and(alloc, formula.copy(alloc)?, formula)?;
+/// The conjunction with a negation on the right, or on the left.
+fn leaned(
+    alloc: Global,
+    formula: Formula,
+    is_on_the_right: bool,
+) -> Result<Formula, AllocError> {
+    let beside = Formula::not(alloc, Formula::Single(Track(0)))?;
+    if is_on_the_right {
+        Formula::and(alloc, formula, beside)
+    } else {
+        Formula::and(alloc, beside, formula)
+    }
+}
+
+/// The formula with one more level.
+fn grown(
+    alloc: Global,
+    shape: Shape,
+    level: u32,
+    formula: Formula,
+) -> Result<Formula, AllocError> {
+    match shape {
+        Shape::Negations => Formula::not(alloc, formula),
+        Shape::Zigzag => leaned(alloc, formula, level % 2 == 0),
+        Shape::Doubled => Formula::and(alloc, formula.copy(alloc)?, formula),
+    }
+}
+
+/// The formula of the shape with so many levels.
+fn large(alloc: Global, shape: Shape, levels: u32) -> Result<Formula, AllocError> {
+    let mut formula = shape.start();
+    for level in 0..levels {
+        formula = grown(alloc, shape, level, formula)?;
     }
     Ok(formula)
 }
@@ -160,12 +196,39 @@ fn write_put(interner: &mut Interner, form: Node, out: &mut Writer) -> Result<()
     Ok(())
 }
 
-/// The large formula of that name, of so many levels.
-fn large(alloc: Global, what: &str, count: u32) -> Result<Formula, AllocError> {
-    match what {
-        "negations" => negations(alloc, count),
-        "zigzag" => zigzag(alloc, count),
-        _ => doubled(alloc, count),
+/// Writes what there is to say of a large formula.
+fn write_large(
+    alloc: Global,
+    interner: &mut Interner,
+    shape: Shape,
+    levels: u32,
+    out: &mut Writer,
+) -> Result<(), AllocError> {
+    let formula = large(alloc, shape, levels)?;
+    write_formula(alloc, interner, &formula, out)
+}
+
+/// Writes what a line asks for of numbers.
+fn answer_numbers(
+    alloc: Global,
+    interner: &mut Interner,
+    line: &str,
+    out: &mut Writer,
+) -> Result<(), AllocError> {
+    let what = word_at(line, 0);
+    let one = number_of(word_at(line, 1));
+    if what == "parts" {
+        return write_parts(alloc, interner, FormulaId(one), out);
+    }
+    if what == "form" {
+        return write_form(alloc, interner, FormulaId(one), out);
+    }
+    match form_of(what, one, number_of(word_at(line, 2))) {
+        Some(form) => write_put(interner, form, out),
+        None => {
+            write_unknown(out);
+            Ok(())
+        }
     }
 }
 
@@ -176,20 +239,8 @@ pub(crate) fn answer_form(
     line: &str,
     out: &mut Writer,
 ) -> Result<(), AllocError> {
-    let what = word_at(line, 0);
-    let one = number_of(word_at(line, 1));
-    match what {
-        "parts" => return write_parts(alloc, interner, FormulaId(one), out),
-        "form" => return write_form(alloc, interner, FormulaId(one), out),
-        "negations" | "zigzag" | "doubled" => {
-            let formula = large(alloc, what, one)?;
-            return write_formula(alloc, interner, &formula, out);
-        }
-        _ => {}
+    match Shape::of(word_at(line, 0)) {
+        Some(shape) => write_large(alloc, interner, shape, number_of(word_at(line, 1)), out),
+        None => answer_numbers(alloc, interner, line, out),
     }
-    match form_of(what, one, number_of(word_at(line, 2))) {
-        Some(form) => write_put(interner, form, out)?,
-        None => write_unknown(out),
-    }
-    Ok(())
 }

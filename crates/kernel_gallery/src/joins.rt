@@ -59,6 +59,21 @@ fn make_pair(shelf: &mut Shelf) -> Result<Pair, Full>
     Ok(Pair { first, second })
 }
 
+/// Writes the state where these tracks are set.
+fn write_state(
+    alloc: Global,
+    shelf: &Shelf,
+    root: NodeRef,
+    tracks: &[u32],
+    out: &mut Writer,
+) -> Result<(), AllocError>
+    requires { IsValid shelf.now root }
+{
+    let label = Items::from_slice(alloc, tracks)?;
+    write_number(out, b" ", shelf.eval(root, &label) as u64);
+    Ok(())
+}
+
 /// Writes the states where no track, track 0, track 1 and both are set.
 fn write_states(
     alloc: Global,
@@ -68,11 +83,10 @@ fn write_states(
 ) -> Result<(), AllocError>
     requires { IsValid shelf.now root }
 {
-    for tracks in [&[][..], &[0], &[1], &[1, 0]] {
-        let label = Items::from_slice(alloc, tracks)?;
-        write_number(out, b" ", shelf.eval(root, &label) as u64);
-    }
-    Ok(())
+    write_state(alloc, shelf, root, &[], out)?;
+    write_state(alloc, shelf, root, &[0], out)?;
+    write_state(alloc, shelf, root, &[1], out)?;
+    write_state(alloc, shelf, root, &[1, 0], out)
 }
 
 /// The first reference for each word `0`, and the second for each other word.
@@ -186,7 +200,14 @@ fn write_kept(alloc: Global, shelf: &Shelf, pair: Pair, out: &mut Writer) -> Res
     Ok(())
 }
 
-/// Writes what a line asks for of a shelf of its own with this limit, and what stands there afterwards.
+/// Writes what a line asks for, and what stands on the shelf afterwards.
+fn write_join(alloc: Global, shelf: &mut Shelf, line: &str, out: &mut Writer) -> Result<(), Stop> {
+    let pair = make_pair(shelf)?;
+    write_made(alloc, shelf, pair, line, out)?;
+    Ok(write_kept(alloc, shelf, pair, out)?)
+}
+
+/// Writes what a line asks for of a shelf of its own with this limit.
 pub(crate) fn answer_join(
     alloc: Global,
     limit: u32,
@@ -197,7 +218,5 @@ pub(crate) fn answer_join(
     requires small { limit ≤ 16000000 }
 {
     let mut shelf = Shelf::open(alloc, limit)?;
-    let pair = make_pair(&mut shelf)?;
-    write_made(alloc, &mut shelf, pair, line, out)?;
-    Ok(write_kept(alloc, &shelf, pair, out)?)
+    write_join(alloc, &mut shelf, line, out)
 }

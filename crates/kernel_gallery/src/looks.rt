@@ -1,6 +1,7 @@
 //! What is written of an automaton.
 
-ghost use Rattle.gta_core.specs.Auto.{IsAuto};
+ghost use Rattle.gta_theory.specs.Guides.{IsSpace};
+ghost use Rattle.gta_core.specs.Auto.{guide_of, IsAuto};
 
 use crate::lines::{number_of, write_number, write_truth, write_unknown};
 use crate::trees::write_trees;
@@ -23,18 +24,30 @@ fn write_states(g: &Guide, a: &Auto, out: &mut Writer) {
     }
 }
 
+/// How many pairs of child states a space has.
+fn pairs(g: &Guide, a: &Auto, space: u32) -> usize {
+    let (left, right) = g.children(space).unwrap_or((0, 0));
+    let lefts = a.states(left).unwrap_or(0) as usize;
+    lefts.wrapping_mul(a.states(right).unwrap_or(0) as usize)
+}
+
+/// How many nodes the functions of a space have.
+fn nodes(alloc: Global, a: &Auto, shelf: &Shelf, space: u32) -> Result<usize, NoMemory>
+    requires { IsSpace (guide_of a.now) space }
+{
+    let part = a.factored(alloc, shelf, space)?;
+    let listing = list_nodes(alloc, shelf, part.roots.as_slice())?;
+    Ok(listing.nodes.len())
+}
+
 /// The Size: pairs of child states and nodes of functions, space by space.
 fn size(alloc: Global, g: &Guide, a: &Auto, shelf: &Shelf) -> Result<usize, NoMemory>
     requires { IsAuto g.now shelf.now a.now }
 {
     let mut size: usize = 0;
     for space in 0..g.spaces() {
-        let (left, right) = g.children(space).unwrap_or((0, 0));
-        let lefts = a.states(left).unwrap_or(0) as usize;
-        let pairs = lefts.wrapping_mul(a.states(right).unwrap_or(0) as usize);
-        let part = a.factored(alloc, shelf, space)?;
-        let listing = list_nodes(alloc, shelf, part.roots.as_slice())?;
-        size = size.wrapping_add(pairs).wrapping_add(listing.nodes.len());
+        let many = nodes(alloc, a, shelf, space)?;
+        size = size.wrapping_add(pairs(g, a, space)).wrapping_add(many);
     }
     Ok(size)
 }

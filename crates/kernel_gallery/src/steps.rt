@@ -83,6 +83,29 @@ fn after(alloc: Global, g: &Guide, a: Auto, step: Step, shelf: &mut Shelf) -> Re
     }
 }
 
+/// The automaton after a word: a step, or something that is written of it.
+fn beyond(
+    alloc: Global,
+    g: &Guide,
+    a: Auto,
+    word: &str,
+    shelf: &mut Shelf,
+    out: &mut Writer,
+) -> Result<Auto, Stop>
+    requires shelf { IsShelf shelf.old }
+    requires auto { IsAuto g.now shelf.old a }
+    ensures auto { IfOk result (IsAuto g.now shelf.new) }
+    ensures shelf { IsShelf shelf.new }
+{
+    match Step::of(word) {
+        Some(step) => after(alloc, g, a, step, shelf),
+        None => {
+            look(alloc, g, &a, shelf, word, out)?;
+            Ok(a)
+        }
+    }
+}
+
 /// Writes that the shelf is full, and how many nodes it has; want of memory is an error.
 fn stopped(stop: Stop, shelf: &Shelf, out: &mut Writer) -> Result<(), Stop> {
     match stop {
@@ -109,11 +132,7 @@ pub(crate) fn go_on(
 {
     let mut a = first;
     for word in words.split_whitespace() {
-        let Some(step) = Step::of(word) else {
-            look(alloc, g, &a, shelf, word, out)?;
-            continue;
-        };
-        match after(alloc, g, a, step, shelf) {
+        match beyond(alloc, g, a, word, shelf, out) {
             Ok(next) => a = next,
             Err(stop) => return stopped(stop, shelf, out),
         }

@@ -3,7 +3,7 @@
 //! A root has the label `number % 4`: no track, track 0, track 1 or both. What is left of the number, `number / 4`, goes over
 //! the children's trees, first those with the fewest nodes on the left, and for each the left tree's number runs first.
 
-ghost use Rattle.std.specs.Prelude.{◌≡◌, ◌+◌, ◌<◌, ◌≤◌, length, option_map, IfOk, IfSome};
+ghost use Rattle.std.specs.Prelude.{◌≡◌, ◌+◌, ◌<◌, ◌≤◌, ◌++◌, [], ◌∷◌, length, option_map, IfOk, IfSome, OnOk};
 ghost use Rattle.gta_core.specs.Auto.{guide_of, IsAuto};
 ghost use Rattle.ws2s_core.specs.LabelTrees.{IsTree};
 ghost use Rattle.ws2s_theory.specs.Trees.{last_place, moved_on, under_root};
@@ -112,6 +112,20 @@ fn moved(alloc: Global, node: &TreeNode, offset: u32) -> Result<TreeNode, AllocE
     })
 }
 
+/// Puts a node behind others, its children so many places later.
+fn add_moved(
+    alloc: Global,
+    nodes: &mut TreeNodeList,
+    node: &TreeNode,
+    offset: u32,
+) -> Result<(), AllocError>
+    requires left { IfSome node.now.left (λ child. child + offset < 4294967296) }
+    requires right { IfSome node.now.right (λ child. child + offset < 4294967296) }
+    ensures { OnOk result (nodes.new ≡ nodes.old ++ moved_on offset node.now ∷ []) }
+{
+    nodes.push(moved(alloc, node, offset)?)
+}
+
 /// The place that is so much further on.
 fn moved_place(child: Option<u32>, offset: u32) -> Option<u32>
     requires { IfSome child (λ place. place + offset < 4294967296) }
@@ -137,7 +151,7 @@ fn joined(
     let offset = left.len() as u32;
     let mut nodes = left;
     for node in right {
-        nodes.push(moved(alloc, node, offset)?)?;
+        add_moved(alloc, &mut nodes, node, offset)?;
     }
     nodes.push(TreeNode {
         tracks,
@@ -145,6 +159,21 @@ fn joined(
         right: last_of(offset, right.len()),
     })?;
     Ok(nodes)
+}
+
+/// Whether the tree of this number among those of so many nodes is accepted.
+fn is_accepted(
+    alloc: Global,
+    a: &Auto,
+    shelf: &Shelf,
+    size: u32,
+    number: u32,
+) -> Result<bool, AllocError>
+    requires auto { IsAuto (guide_of a.now) shelf.now a.now }
+    requires few { size ≤ 4 }
+{
+    let tree = LabelTree::new(tree_of(alloc, size, number)?);
+    accepts(alloc, a, shelf, &tree)
 }
 
 /// How many trees of so many nodes are accepted, and a sum of their numbers in which the place of each counts.
@@ -155,8 +184,7 @@ fn accepted(alloc: Global, a: &Auto, shelf: &Shelf, size: u32) -> Result<(u32, u
     let mut many: u32 = 0;
     let mut sum: u32 = 0;
     for number in 0..trees_of(size) {
-        let tree = LabelTree::new(tree_of(alloc, size, number)?);
-        if accepts(alloc, a, shelf, &tree)? {
+        if is_accepted(alloc, a, shelf, size, number)? {
             many = many.wrapping_add(1);
             sum = sum.wrapping_mul(31).wrapping_add(number);
         }

@@ -1,7 +1,7 @@
 //! The formula that a line asks for, behind its `?`.
 
 use crate::lines::{Stop, field_at, number_at, sym_at, variant_at, word_at};
-use crate::programs::{program_of, route_in, walking};
+use crate::programs::{route_in, walking};
 use graph_cells::{has, is_dead, is_live, is_null};
 use graph_routes::{
     bool_formula, field_formula, live_formula, step_formula, variant_formula, walk_formula,
@@ -9,7 +9,7 @@ use graph_routes::{
 use graph_type::{closes, cut_formula};
 use graph_view::{CutCheck, View};
 use std::alloc::{AllocError, Global};
-use store_core::FieldId;
+use store_core::{FieldId, Route};
 use tree_encode::Layout;
 use tree_formula::well_encoded;
 use ws2s_core::{Formula, Track};
@@ -46,6 +46,21 @@ fn of_field(
     }
 }
 
+/// A line asks for a walk of this route.
+fn walk_of(
+    alloc: Global,
+    l: &Layout<'_>,
+    route: &Route,
+    view: &View,
+    line: &str,
+) -> Result<Formula, AllocError> {
+    let from = Track(number_at(line, 4));
+    let to = Track(number_at(line, 5));
+    let pointers = word_at(line, 3) == "all";
+    let next = number_at(line, 6);
+    walk_formula(alloc, l, view, route, pointers, from, to, next)
+}
+
 /// `walk ROUTE data A B NEXT` or, over pointer fields too, `walk ROUTE all A B NEXT`.
 fn walk(
     alloc: Global,
@@ -54,22 +69,11 @@ fn walk(
     view: &View,
     line: &str,
 ) -> Result<Formula, Stop> {
-    let text = walking(alloc, l.types(), program, word_at(line, 2))?;
-    let typed = program_of(alloc, &text)?;
-    let route = route_in(&typed).ok_or(Stop)?;
-    let from = Track(number_at(line, 4));
-    let to = Track(number_at(line, 5));
-    let pointers = word_at(line, 3) == "all";
-    Ok(walk_formula(
-        alloc,
-        l,
-        view,
-        route,
-        pointers,
-        from,
-        to,
-        number_at(line, 6),
-    )?)
+    let typed = walking(alloc, l.types(), program, word_at(line, 2))?;
+    match route_in(&typed) {
+        Some(route) => Ok(walk_of(alloc, l, route, view, line)?),
+        None => Err(Stop),
+    }
 }
 
 /// `live A NEXT`, `null VALUE`, `dead VALUE`, `trees`, or `closed SET VALUE NEXT`: the set has the value and what data fields

@@ -1,11 +1,14 @@
 //! The texts of a bundle, one after the other.
 
+ghost use Rattle.pale_typed.specs.Fitting.{ProgramFits};
+
 use crate::formulas::write_views;
 use crate::lines::{Stop, word_at};
 use crate::programs::{layout_of, program_of};
 use crate::stores::write_stores;
 use anyhow::{Result, bail};
 use pale_io::{Sink, write_all};
+use pale_typed::Typed;
 use plain_writer::Writer;
 use std::alloc::Global;
 
@@ -19,11 +22,18 @@ fn write_head(out: &mut Writer, head: &str) {
     out.push(b'\n');
 }
 
-/// Writes what the text behind a head gives.
-fn write_text(alloc: Global, head: &str, text: &str, out: &mut Writer) -> Result<(), Stop> {
-    let (program, rest) = text.split_once("\n\n").unwrap_or((text, ""));
-    let typed = program_of(alloc, program.as_bytes())?;
-    let layout = layout_of(alloc, &typed, word_at(head, 2) == "spare")?;
+/// Writes what the sections behind a program give.
+fn write_sections(
+    alloc: Global,
+    head: &str,
+    typed: &Typed,
+    program: &str,
+    rest: &str,
+    out: &mut Writer,
+) -> Result<(), Stop>
+    requires { ProgramFits typed.now }
+{
+    let layout = layout_of(alloc, typed, word_at(head, 2) == "spare")?;
     match word_at(head, 1) {
         "formulas" => write_views(alloc, &layout, program, rest, out),
         "stores" => write_stores(alloc, &layout, rest, out),
@@ -31,14 +41,27 @@ fn write_text(alloc: Global, head: &str, text: &str, out: &mut Writer) -> Result
     }
 }
 
+/// Writes a head as it stands in the bundle, and what the text behind it gives.
+fn write_text(alloc: Global, head: &str, text: &str, out: &mut Writer) -> Result<(), Stop> {
+    write_head(out, head);
+    let (program, rest) = text.split_once("\n\n").unwrap_or((text, ""));
+    let typed = program_of(alloc, program.as_bytes())?;
+    write_sections(alloc, head, &typed, program, rest, out)
+}
+
+/// Writes what each text of a bundle gives.
+fn write_texts(alloc: Global, bundle: &str, out: &mut Writer) -> Result<(), Stop> {
+    for part in bundle.split(HEAD).skip(1) {
+        let (head, text) = part.split_once('\n').unwrap_or((part, ""));
+        write_text(alloc, head, text, out)?;
+    }
+    Ok(())
+}
+
 /// What is written for a bundle.
 fn answers(alloc: Global, bundle: &str) -> Result<Vec<u8>, Stop> {
     let mut out = Writer::new(alloc);
-    for part in bundle.split(HEAD).skip(1) {
-        let (head, text) = part.split_once('\n').unwrap_or((part, ""));
-        write_head(&mut out, head);
-        write_text(alloc, head, text, &mut out)?;
-    }
+    write_texts(alloc, bundle, &mut out)?;
     Ok(out.finish()?)
 }
 

@@ -83,42 +83,88 @@ fn write_asked(out: &mut Writer, f: &Formula, line: &str, places: &[u32], sets: 
     out.push(b'\n');
 }
 
+/// What the questions of all views of a text are asked of.
+#[derive(Clone, Copy)]
+struct Scene<'a> {
+    program: &'a str,
+    /// The lines of the scene.
+    text: &'a str,
+    places: &'a [u32],
+}
+
+/// Writes what a line asks for.
+fn write_line(
+    alloc: Global,
+    l: &Layout<'_>,
+    scene: Scene<'_>,
+    view: &View,
+    line: &str,
+    sets: &mut [Set],
+    out: &mut Writer,
+) -> Result<(), Stop> {
+    let formula = formula_of(alloc, l, scene.program, view, line)?;
+    write_asked(out, &formula, line, scene.places, sets);
+    Ok(())
+}
+
 /// Writes what each line asks for that begins with `? `.
 fn write_all_asked(
     alloc: Global,
     l: &Layout<'_>,
-    program: &str,
+    scene: Scene<'_>,
     view: &View,
     text: &str,
-    places: &[u32],
     sets: &mut [Set],
     out: &mut Writer,
 ) -> Result<(), Stop> {
     for line in text.lines() {
         if line.starts_with("? ") {
-            let formula = formula_of(alloc, l, program, view, line)?;
-            write_asked(out, &formula, line, places, sets);
+            write_line(alloc, l, scene, view, line, sets, out)?;
         }
     }
     Ok(())
 }
 
-/// Writes what a view gives: its own formulas, and those that stand with the scene.
+/// Writes what a view's own lines ask for, and those of the scene.
+fn write_both(
+    alloc: Global,
+    l: &Layout<'_>,
+    scene: Scene<'_>,
+    view: &View,
+    text: &str,
+    out: &mut Writer,
+) -> Result<(), Stop> {
+    let mut sets = [0; TRACKS];
+    mark_all(scene.places, scene.text, &mut sets);
+    out.push_all(b"view\n");
+    write_all_asked(alloc, l, scene, view, text, &mut sets, out)?;
+    write_all_asked(alloc, l, scene, view, scene.text, &mut sets, out)
+}
+
+/// Writes what a view gives.
 fn write_view(
     alloc: Global,
     l: &Layout<'_>,
-    program: &str,
-    scene: &str,
+    scene: Scene<'_>,
     text: &str,
-    places: &[u32],
     out: &mut Writer,
 ) -> Result<(), Stop> {
     let view = view_of(alloc, l, text)?;
-    let mut sets = [0; TRACKS];
-    mark_all(places, scene, &mut sets);
-    out.push_all(b"view\n");
-    write_all_asked(alloc, l, program, &view, text, places, &mut sets, out)?;
-    write_all_asked(alloc, l, program, &view, scene, places, &mut sets, out)
+    write_both(alloc, l, scene, &view, text, out)
+}
+
+/// Writes what each view of a scene gives.
+fn write_each(
+    alloc: Global,
+    l: &Layout<'_>,
+    scene: Scene<'_>,
+    views: &str,
+    out: &mut Writer,
+) -> Result<(), Stop> {
+    for text in views.split("\n\n") {
+        write_view(alloc, l, scene, text, out)?;
+    }
+    Ok(())
 }
 
 /// Writes what a scene and the views behind it ask for.
@@ -129,10 +175,12 @@ pub(crate) fn write_views(
     rest: &str,
     out: &mut Writer,
 ) -> Result<(), Stop> {
-    let (scene, views) = rest.split_once("\n\n").unwrap_or((rest, ""));
-    let places = places_of(alloc, scene)?;
-    for text in views.split("\n\n") {
-        write_view(alloc, l, program, scene, text, places.as_slice(), out)?;
-    }
-    Ok(())
+    let (text, views) = rest.split_once("\n\n").unwrap_or((rest, ""));
+    let places = places_of(alloc, text)?;
+    let scene = Scene {
+        program,
+        text,
+        places: places.as_slice(),
+    };
+    write_each(alloc, l, scene, views, out)
 }

@@ -73,8 +73,8 @@ pub(crate) fn layout_of<'a>(
     Ok(Layout::new(alloc, types, vars, &spares)?)
 }
 
-/// The program with a procedure in front whose precondition walks the route from a cell of the first type.
-pub(crate) fn walking(
+/// The text of the program with a procedure in front whose precondition walks the route from a cell of the first type.
+fn walking_text(
     alloc: Global,
     types: &TypeTable,
     program: &str,
@@ -88,6 +88,17 @@ pub(crate) fn walking(
     text.push_all(b">x] { }\n");
     text.push_all(program.as_bytes());
     text.finish()
+}
+
+/// The program with such a procedure in front.
+pub(crate) fn walking(
+    alloc: Global,
+    types: &TypeTable,
+    program: &str,
+    route: &str,
+) -> Result<Typed, Stop> {
+    let text = walking_text(alloc, types, program, route)?;
+    program_of(alloc, &text)
 }
 
 /// The route that the precondition of the first procedure walks.

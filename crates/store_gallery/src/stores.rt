@@ -78,6 +78,20 @@ fn write_tree(alloc: Global, nodes: &[TreeNode], out: &mut Writer) -> Result<(),
     Ok(())
 }
 
+/// Writes a store.
+fn write_one(
+    alloc: Global,
+    l: &Layout<'_>,
+    store: &Store,
+    out: &mut Writer,
+) -> Result<(), AllocError>
+    requires { Fits l.now.types l.now.vars store.now }
+{
+    let text = store_text(alloc, l.types(), l.vars(), store)?;
+    out.push_all(&text);
+    Ok(())
+}
+
 /// Writes the store that is read off the tree of a well-formed one.
 fn write_back(
     alloc: Global,
@@ -89,9 +103,18 @@ fn write_back(
 {
     let tree = encode(alloc, l, store)?;
     let back = decode(alloc, l, &tree)?;
-    let text = store_text(alloc, l.types(), l.vars(), &back)?;
-    out.push_all(&text);
-    Ok(())
+    write_one(alloc, l, &back, out)
+}
+
+/// Writes the tree of a store.
+fn write_tree_of(
+    alloc: Global,
+    l: &Layout<'_>,
+    store: &Store,
+    out: &mut Writer,
+) -> Result<(), AllocError> {
+    let tree = encode(alloc, l, store)?;
+    write_tree(alloc, tree.nodes(), out)
 }
 
 /// Writes the tree of a store, and where it is well-formed the store that is read off it.
@@ -103,8 +126,7 @@ fn write_store(
 ) -> Result<(), AllocError>
     requires { Fits l.now.types l.now.vars store.now }
 {
-    let tree = encode(alloc, l, store)?;
-    write_tree(alloc, tree.nodes(), out)?;
+    write_tree_of(alloc, l, store, out)?;
     match well_formed(alloc, l.types(), l.vars(), store)? {
         None => write_back(alloc, l, store, out),
         Some(_) => {
@@ -128,6 +150,12 @@ fn store_of(alloc: Global, l: &Layout<'_>, text: &[u8]) -> Result<Store, Stop>
     }
 }
 
+/// Writes the tree of the store of a text, and the store that comes back.
+fn write_text(alloc: Global, l: &Layout<'_>, text: &str, out: &mut Writer) -> Result<(), Stop> {
+    let store = store_of(alloc, l, text.as_bytes())?;
+    Ok(write_store(alloc, l, &store, out)?)
+}
+
 /// Writes the layout, and for each store its tree and the store that comes back.
 pub(crate) fn write_stores(
     alloc: Global,
@@ -137,8 +165,7 @@ pub(crate) fn write_stores(
 ) -> Result<(), Stop> {
     write_layout(alloc, l, out)?;
     for text in texts.split_terminator("\n\n") {
-        let store = store_of(alloc, l, text.as_bytes())?;
-        write_store(alloc, l, &store, out)?;
+        write_text(alloc, l, text, out)?;
     }
     Ok(())
 }

@@ -50,6 +50,14 @@ fn look_at(l: &Layout<'_>, view: &mut View, line: &str) -> Result<(), Stop> {
     Ok(())
 }
 
+/// Puts what each line says into the view.
+fn look_at_all(l: &Layout<'_>, view: &mut View, text: &str) -> Result<(), Stop> {
+    for line in text.lines() {
+        look_at(l, view, line)?;
+    }
+    Ok(())
+}
+
 /// The view of lines.
 pub(crate) fn view_of(alloc: Global, l: &Layout<'_>, text: &str) -> Result<View, Stop> {
     let mut view = View {
@@ -58,9 +66,7 @@ pub(crate) fn view_of(alloc: Global, l: &Layout<'_>, text: &str) -> Result<View,
         region: None,
         next: 0,
     };
-    for line in text.lines() {
-        look_at(l, &mut view, line)?;
-    }
+    look_at_all(l, &mut view, text)?;
     Ok(view)
 }
 

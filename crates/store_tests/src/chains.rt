@@ -4,10 +4,10 @@ ghost use Rattle.std.specs.Prelude.{◌≡◌, ◌+◌, ◌<◌, [], length, IfO
 ghost use Rattle.store_logic.specs.Uses.{CanExpand};
 ghost use Rattle.store_tests.specs.Chains.{IsLink};
 
-use crate::programs::{SHORT, program_of, store_of, vars_of};
+use crate::programs::{SHORT, Stop, program_of, store_of, vars_of};
 use plain_data::Boxed;
+use pale_typed::Typed;
 use std::alloc::{AllocError, Global};
-use std::test::Fail;
 use store_core::{Store, TypeTable};
 use store_expand::{ExpandFault, SizedPreds, expand};
 use store_logic::{ArgList, Assertion, PredDef, Preds, Region};
@@ -77,35 +77,50 @@ fn nots(assertion: &Assertion) -> u32 {
     count
 }
 
-/// Whether the store satisfies the assertion, and whether it satisfies the negation of a copy.
-fn judged(
+/// The negation of a copy.
+fn negation(alloc: Global, assertion: &Assertion) -> Result<Assertion, AllocError> {
+    Ok(Assertion::Not(Boxed::new(alloc, assertion.copy(alloc)?)?))
+}
+
+/// Whether the store satisfies the negation of a copy of the assertion, and not the assertion.
+fn is_false(
     alloc: Global,
     types: &TypeTable,
     store: &Store,
     assertion: &Assertion,
-) -> Result<(bool, bool), AllocError> {
-    let truth = sat(alloc, types, store, &Region::All, assertion)?;
-    let negated = Assertion::Not(Boxed::new(alloc, assertion.copy(alloc)?)?);
-    let other = sat(alloc, types, store, &Region::All, &negated)?;
-    Ok((truth, other))
+) -> Result<bool, AllocError> {
+    if sat(alloc, types, store, &Region::All, assertion)? {
+        return Ok(false);
+    }
+    let negated = negation(alloc, assertion)?;
+    sat(alloc, types, store, &Region::All, &negated)
 }
 
 /// The same on a store without cells.
-fn judged_on_none(alloc: Global, assertion: &Assertion) -> Result<(bool, bool), Fail> {
+fn is_false_on_none(alloc: Global, typed: &Typed, assertion: &Assertion) -> Result<bool, Stop> {
+    let store = store_of(alloc, typed.types(), vars_of(typed)?, NONE)?;
+    Ok(is_false(alloc, typed.types(), &store, assertion)?)
+}
+
+/// Whether the deepest assertion has its negations, and is false on a store without cells.
+fn is_deepest(alloc: Global, assertion: &Assertion) -> Result<bool, Stop> {
     let typed = program_of(alloc, SHORT, "true")?;
-    let store = store_of(alloc, typed.types(), vars_of(&typed)?, NONE)?;
-    Ok(judged(alloc, typed.types(), &store, assertion)?)
+    Ok(nots(assertion) == 65_535 && is_false_on_none(alloc, &typed, assertion)?)
+}
+
+/// Whether the deepest assertion that may be made is made, and is as it should be.
+fn deepest_is_made(alloc: Global) -> bool {
+    match expanded(alloc, 65_535, false) {
+        Ok(deepest) => matches!(is_deepest(alloc, &deepest), Ok(true)),
+        Err(_) => false,
+    }
 }
 
 #[test]
-fn the_most_nodes_are_put_in_judged_and_copied(rt: HostRuntime) -> Result<(), Fail> {
+fn the_most_nodes_are_put_in_judged_and_copied(rt: HostRuntime) {
     let alloc = rt.alloc();
-    let deepest = expanded(alloc, 65_535, false)?;
-    assert!(rt; nots(&deepest) == 65_535);
-    assert!(rt; judged_on_none(alloc, &deepest)? == (false, true));
-    assert!(rt; is_too_big(alloc, 65_536, false));
-    assert!(rt; is_too_big(alloc, 39, true), "bodies that double");
-    Ok(())
+    assert!(rt; deepest_is_made(alloc));
+    assert!(rt; is_too_big(alloc, 65_536, false) && is_too_big(alloc, 39, true));
 }
 
 fn with_sizes(alloc: Global, preds: Preds) -> Result<SizedPreds, AllocError>
@@ -118,20 +133,33 @@ fn with_sizes(alloc: Global, preds: Preds) -> Result<SizedPreds, AllocError>
     Ok(sized)
 }
 
+fn is_put_in(alloc: Global, sized: &SizedPreds, last: &Assertion) -> bool
+    requires { CanExpand sized.now last.now }
+{
+    match sized.expand(alloc, last) {
+        Ok(_assertion) => true,
+        Err(_) => false,
+    }
+}
+
 /// Whether the last of so many predicates, each of which uses the one before twice, is too big by the sizes that are kept, and
 /// whether it is put in.
 fn sized(alloc: Global, more: u32) -> Result<(bool, bool), AllocError> {
     let sized = with_sizes(alloc, chain(alloc, more, true)?)?;
     let last = used(alloc, more);
     let is_big = sized.is_too_big(alloc, &last)?;
-    Ok((is_big, sized.expand(alloc, &last).is_ok()))
+    Ok((is_big, is_put_in(alloc, &sized, &last)))
+}
+
+/// Whether 15 predicates are put in, and 16 and 2,000 aren't.
+fn sizes_tell(alloc: Global) -> Result<bool, AllocError> {
+    let few = sized(alloc, 15)?;
+    let many = sized(alloc, 16)?;
+    let most = sized(alloc, 2_000)?;
+    Ok((few, many, most) == ((false, true), (true, false), (true, false)))
 }
 
 #[test]
-fn kept_sizes_tell_what_is_put_in(rt: HostRuntime) -> Result<(), Fail> {
-    let alloc = rt.alloc();
-    assert!(rt; sized(alloc, 15)? == (false, true));
-    assert!(rt; sized(alloc, 16)? == (true, false));
-    assert!(rt; sized(alloc, 2_000)? == (true, false));
-    Ok(())
+fn kept_sizes_tell_what_is_put_in(rt: HostRuntime) {
+    assert!(rt; matches!(sizes_tell(rt.alloc()), Ok(true)));
 }

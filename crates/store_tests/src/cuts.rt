@@ -5,12 +5,12 @@ ghost use Rattle.store_core.specs.Stores.{Fits};
 
 mod stores;
 
-use crate::programs::{pre_of, program_of, store_of, vars_of};
+use crate::programs::{Stop, fault_in, pre_of, program_of, store_of, vars_of};
 use crate::walks::lists;
+use pale_typed::Typed;
 use routing_expr::{Followed, cut_fault, ends_on, reached, store_on};
 use routing_walks::CutFault;
 use std::alloc::{AllocError, Global};
-use std::test::Fail;
 use store_core::{CellId, Route, Store, TypeTable, Value, VarId, VarTable};
 use store_logic::Assertion;
 use stores::{STORES, VARS};
@@ -65,22 +65,43 @@ fn is_so(
     vars: &VarTable,
     route: &Route,
     case: &Case,
-) -> Result<bool, Fail> {
+) -> Result<bool, Stop> {
     let store = store_of(alloc, types, vars, case.text)?;
     let is_cut = is_cut(alloc, types, vars, &store, case)?;
     Ok(is_cut && is_on_set(alloc, types, &store, route, case)?)
 }
 
-#[test]
-fn cuts_parts_and_sets_of_cells_are_judged(rt: HostRuntime) -> Result<(), Fail> {
-    let typed = program_of(rt.alloc(), VARS, "x<next*>y")?;
-    let vars = vars_of(&typed)?;
-    let Some(Assertion::Walk(_, route, _)) = pre_of(&typed) else {
-        return Err("no walk".into());
-    };
+/// The text of the first case that isn't so.
+fn wrong_of(
+    alloc: Global,
+    types: &TypeTable,
+    vars: &VarTable,
+    route: &Route,
+) -> Result<&'static str, Stop> {
     for case in STORES {
-        let is_so = is_so(rt.alloc(), typed.types(), vars, route, case)?;
-        assert!(rt; is_so, "{}", case.text);
+        if !is_so(alloc, types, vars, route, case)? {
+            return Ok(case.text);
+        }
     }
-    Ok(())
+    Ok("")
+}
+
+/// The same with the route and the variables of a program.
+fn wrong_in(alloc: Global, typed: &Typed) -> Result<&'static str, Stop> {
+    let vars = vars_of(typed)?;
+    match pre_of(typed) {
+        Some(Assertion::Walk(_, route, _)) => wrong_of(alloc, typed.types(), vars, route),
+        _ => Err(Stop),
+    }
+}
+
+fn wrong(alloc: Global) -> Result<&'static str, Stop> {
+    let typed = program_of(alloc, VARS, "x<next*>y")?;
+    wrong_in(alloc, &typed)
+}
+
+#[test]
+fn cuts_parts_and_sets_of_cells_are_judged(rt: HostRuntime) {
+    let found = fault_in(wrong(rt.alloc()));
+    assert!(rt; found.is_empty(), "{found}");
 }

@@ -9,10 +9,27 @@ use pale_typed::Typed;
 use pale_types::check_types;
 use plain_writer::Writer;
 use std::alloc::{AllocError, Global};
-use std::test::Fail;
 use store_core::{Store, TypeId, TypeTable, VarTable, VariantId};
 use store_logic::Assertion;
 use store_text::{read_store, read_stores_fit, store_text};
+
+/// Why a test knows nothing: a text that isn't read, or want of memory.
+#[derive(Clone, Copy)]
+pub(crate) struct Stop;
+
+impl From<AllocError> for Stop {
+    fn from(_: AllocError) -> Stop {
+        Stop
+    }
+}
+
+/// What is wrong, empty where nothing is.
+pub(crate) fn fault_in(found: Result<&'static str, Stop>) -> &'static str {
+    match found {
+        Ok(text) => text,
+        Err(_) => "a text that isn't read, or want of memory",
+    }
+}
 
 /// The types of all tests.
 const TYPES: &[u8] = b"type Node = { data next: Node; pointer prev: Node [^]; bool mark; }
@@ -61,19 +78,22 @@ fn text_of(alloc: Global, vars: &[u8], pre: &[u8]) -> Result<Vec<u8>, AllocError
 }
 
 /// The program of these types whose procedure has these variables and this precondition.
-pub(crate) fn program_of(alloc: Global, vars: &[u8], pre: &str) -> Result<Typed, Fail> {
+pub(crate) fn program_of(alloc: Global, vars: &[u8], pre: &str) -> Result<Typed, Stop> {
     let text = text_of(alloc, vars, pre.as_bytes())?;
     if text.len() > 1000 {
-        return Err("a long program".into());
+        return Err(Stop);
     }
-    Ok(typed_of(alloc, &text)?)
+    match typed_of(alloc, &text) {
+        Ok(typed) => Ok(typed),
+        Err(_) => Err(Stop),
+    }
 }
 
 /// The variables of the procedure of such a program.
-pub(crate) fn vars_of(typed: &Typed) -> Result<&VarTable, Fail> {
+pub(crate) fn vars_of(typed: &Typed) -> Result<&VarTable, Stop> {
     match typed.vars(0) {
         Some(vars) => Ok(vars),
-        None => Err("no procedure".into()),
+        None => Err(Stop),
     }
 }
 
@@ -88,16 +108,18 @@ pub(crate) fn store_of(
     types: &TypeTable,
     vars: &VarTable,
     text: &str,
-) -> Result<Store, Fail>
+) -> Result<Store, Stop>
     ensures { IfOk result (Fits types.now vars.now) }
 {
     let text = text.as_bytes();
     if text.len() > 1000 {
-        return Err("a long text".into());
+        return Err(Stop);
     }
-    let store = read_store(alloc, types, vars, text)?;
     read_stores_fit();
-    Ok(store)
+    match read_store(alloc, types, vars, text) {
+        Ok(store) => Ok(store),
+        Err(_) => Err(Stop),
+    }
 }
 
 /// Whether this is written of the store.

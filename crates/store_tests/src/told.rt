@@ -1,9 +1,11 @@
 //! Store texts that stand in another order, and what is written of each. Their stores name cells that aren't there.
 
-use crate::programs::{SHORT, is_text, program_of, store_of, vars_of};
-use std::alloc::Global;
-use std::test::Fail;
-use store_core::{TypeTable, VarTable};
+ghost use Rattle.store_core.specs.Stores.{Fits};
+
+use crate::programs::{SHORT, Stop, fault_in, is_text, program_of, store_of, vars_of};
+use pale_typed::Typed;
+use std::alloc::{AllocError, Global};
+use store_core::{Store, TypeTable, VarTable};
 
 /// A text, and the text of the store that it spells.
 static TEXTS: &[(&str, &str)] = &[
@@ -40,36 +42,59 @@ fn is_written(
     vars: &VarTable,
     text: &str,
     want: &str,
-) -> Result<bool, Fail> {
+) -> Result<bool, Stop> {
     let store = store_of(alloc, types, vars, text)?;
     Ok(is_text(alloc, types, vars, &store, want)?)
 }
 
-#[test]
-fn stores_are_written_in_their_order(rt: HostRuntime) -> Result<(), Fail> {
-    let typed = program_of(rt.alloc(), SHORT, "true")?;
-    let vars = vars_of(&typed)?;
+/// The first text of whose store something else is written.
+fn wrong_text(
+    alloc: Global,
+    types: &TypeTable,
+    vars: &VarTable,
+) -> Result<&'static str, Stop> {
     for (text, want) in TEXTS {
-        assert!(rt;
-            is_written(rt.alloc(), typed.types(), vars, text, want)?,
-            "at {text}"
-        );
+        if !is_written(alloc, types, vars, text, want)? {
+            return Ok(*text);
+        }
     }
-    Ok(())
+    Ok("")
 }
 
-/// Whether a copy of the store with gaps has its text, its three cells and its next number.
-fn copy_agrees(alloc: Global, types: &TypeTable, vars: &VarTable) -> Result<bool, Fail> {
-    let store = store_of(alloc, types, vars, GAPS)?;
+/// Whether a copy of the store has the text of the one with gaps, its three cells and its next number.
+fn copy_agrees(
+    alloc: Global,
+    types: &TypeTable,
+    vars: &VarTable,
+    store: &Store,
+) -> Result<bool, AllocError>
+    requires { Fits types.now vars.now store.now }
+{
     let copy = store.copy(alloc)?;
     let is_same = (copy.cells(), copy.next()) == (3, store.next());
     Ok(is_same && is_text(alloc, types, vars, &copy, GAPS)?)
 }
 
+/// The first text that isn't written as it should be, or that with gaps where its store's copy isn't the same.
+fn wrong_of(alloc: Global, types: &TypeTable, vars: &VarTable) -> Result<&'static str, Stop> {
+    let store = store_of(alloc, types, vars, GAPS)?;
+    if !copy_agrees(alloc, types, vars, &store)? {
+        return Ok(GAPS);
+    }
+    wrong_text(alloc, types, vars)
+}
+
+fn wrong(alloc: Global) -> Result<&'static str, Stop> {
+    let typed = program_of(alloc, SHORT, "true")?;
+    wrong_in(alloc, &typed)
+}
+
+fn wrong_in(alloc: Global, typed: &Typed) -> Result<&'static str, Stop> {
+    wrong_of(alloc, typed.types(), vars_of(typed)?)
+}
+
 #[test]
-fn a_copied_store_is_the_same(rt: HostRuntime) -> Result<(), Fail> {
-    let typed = program_of(rt.alloc(), SHORT, "true")?;
-    let is_same = copy_agrees(rt.alloc(), typed.types(), vars_of(&typed)?)?;
-    assert!(rt; is_same);
-    Ok(())
+fn stores_and_copies_are_written_in_their_order(rt: HostRuntime) {
+    let found = fault_in(wrong(rt.alloc()));
+    assert!(rt; found.is_empty(), "{found}");
 }

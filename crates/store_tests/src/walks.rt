@@ -1,11 +1,11 @@
 //! Walks along routes that no text can say, over data fields alone: of names that are no data fields, and of a variant without
 //! a name.
 
-use crate::programs::{LEAF, NODE, TREE_LINES, VARS, program_of, store_of, vars_of};
+use crate::programs::{LEAF, NODE, Stop, TREE_LINES, VARS, program_of, store_of, vars_of};
+use pale_typed::Typed;
 use plain_data::{Boxed, Items};
 use routing_expr::{Followed, ends};
 use std::alloc::{AllocError, Global};
-use std::test::Fail;
 use store_core::{CellId, CellList, Route, Store, TypeTable, VariantId};
 
 /// A route.
@@ -78,11 +78,15 @@ fn route_of(alloc: Global, way: &Way) -> Result<Route, AllocError> {
 pub(crate) fn lists(cells: &CellList, digits: &str) -> bool {
     let cells = cells.as_slice();
     let digits = digits.as_bytes();
-    cells.len() == digits.len()
-        && cells
-            .iter()
-            .zip(digits.iter())
-            .all(|(cell, digit)| cell.0.wrapping_add(48) == *digit as u32)
+    if cells.len() != digits.len() {
+        return false;
+    }
+    for place in 0..cells.len() {
+        if cells[place].0.wrapping_add(48) != digits[place] as u32 {
+            return false;
+        }
+    }
+    true
 }
 
 fn leads(
@@ -98,15 +102,27 @@ fn leads(
     Ok(lists(&found, wanted))
 }
 
-#[test]
-fn names_that_are_no_data_fields_lead_nowhere(rt: HostRuntime) -> Result<(), Fail> {
-    let typed = program_of(rt.alloc(), VARS, "true")?;
-    let store = store_of(rt.alloc(), typed.types(), vars_of(&typed)?, TREE_LINES)?;
+/// Whether each way leads from its cell where it should.
+fn all_lead(alloc: Global, types: &TypeTable, store: &Store) -> Result<bool, AllocError> {
     for (way, from, wanted) in CASES {
-        assert!(rt;
-            leads(rt.alloc(), typed.types(), &store, way, *from, wanted)?,
-            "{from} to {wanted}"
-        );
+        if !leads(alloc, types, store, way, *from, wanted)? {
+            return Ok(false);
+        }
     }
-    Ok(())
+    Ok(true)
+}
+
+fn all_lead_in(alloc: Global, typed: &Typed) -> Result<bool, Stop> {
+    let store = store_of(alloc, typed.types(), vars_of(typed)?, TREE_LINES)?;
+    Ok(all_lead(alloc, typed.types(), &store)?)
+}
+
+fn are_so(alloc: Global) -> Result<bool, Stop> {
+    let typed = program_of(alloc, VARS, "true")?;
+    all_lead_in(alloc, &typed)
+}
+
+#[test]
+fn names_that_are_no_data_fields_lead_nowhere(rt: HostRuntime) {
+    assert!(rt; matches!(are_so(rt.alloc()), Ok(true)));
 }

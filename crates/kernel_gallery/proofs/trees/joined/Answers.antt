@@ -15,15 +15,15 @@ below : (child : Option ℕ) (k offset : ℕ) → k + offset < 4294967296 → If
 below None k offset few before = before
 below (Some place) k offset few before = omega (arith, few, before)
 
-pub moved-requires-clause-left : goal.moved-requires-clause-left
-moved-requires-clause-left c =
+pub add_moved-requires-clause-left : goal.add_moved-requires-clause-left
+add_moved-requires-clause-left c =
     below (c.node-item.result).left c.loop-node.node-index c.len-offset.result
     (let few = c.requires.few in let many = c.len-offset.ensures in let inside = c.loop-node-test.true in omega arith)
     (c.requires.tree.left_before c.loop-node.node-index c.node-item.result
     (there c.args.right.now c.loop-node.node-index c.node-item.result (let inside = c.loop-node-test.true in omega arith) c.node-item.is))
 
-pub moved-requires-clause-right : goal.moved-requires-clause-right
-moved-requires-clause-right c =
+pub add_moved-requires-clause-right : goal.add_moved-requires-clause-right
+add_moved-requires-clause-right c =
     below (c.node-item.result).right c.loop-node.node-index c.len-offset.result
     (let few = c.requires.few in let many = c.len-offset.ensures in let inside = c.loop-node-test.true in omega arith)
     (c.requires.tree.right_before c.loop-node.node-index c.node-item.result
