@@ -39,11 +39,7 @@ impl Shape {
 }
 
 /// The conjunction with a negation on the right, or on the left.
-fn leaned(
-    alloc: Global,
-    formula: Formula,
-    is_on_the_right: bool,
-) -> Result<Formula, AllocError> {
+fn leaned(alloc: Global, formula: Formula, is_on_the_right: bool) -> Result<Formula, AllocError> {
     let beside = Formula::not(alloc, Formula::Single(Track(0)))?;
     if is_on_the_right {
         Formula::and(alloc, formula, beside)
@@ -53,12 +49,7 @@ fn leaned(
 }
 
 /// The formula with one more level.
-fn grown(
-    alloc: Global,
-    shape: Shape,
-    level: u32,
-    formula: Formula,
-) -> Result<Formula, AllocError> {
+fn grown(alloc: Global, shape: Shape, level: u32, formula: Formula) -> Result<Formula, AllocError> {
     match shape {
         Shape::Negations => Formula::not(alloc, formula),
         Shape::Zigzag => leaned(alloc, formula, level % 2 == 0),

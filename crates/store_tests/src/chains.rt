@@ -5,8 +5,8 @@ ghost use Rattle.store_logic.specs.Uses.{CanExpand};
 ghost use Rattle.store_tests.specs.Chains.{IsLink};
 
 use crate::programs::{SHORT, Stop, program_of, store_of, vars_of};
-use plain_data::Boxed;
 use pale_typed::Typed;
+use plain_data::Boxed;
 use std::alloc::{AllocError, Global};
 use store_core::{Store, TypeTable};
 use store_expand::{ExpandFault, SizedPreds, expand};

@@ -46,11 +46,7 @@ fn is_so(alloc: Global, store: &Store, row: &Row) -> Result<bool, Stop> {
 }
 
 /// The first assertion of which a row says what isn't so.
-fn wrong_row(
-    alloc: Global,
-    store: &Store,
-    rows: &'static [Row],
-) -> Result<&'static str, Stop> {
+fn wrong_row(alloc: Global, store: &Store, rows: &'static [Row]) -> Result<&'static str, Stop> {
     for row in rows {
         if !is_so(alloc, store, row)? {
             return Ok(row.1);

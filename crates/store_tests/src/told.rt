@@ -48,11 +48,7 @@ fn is_written(
 }
 
 /// The first text of whose store something else is written.
-fn wrong_text(
-    alloc: Global,
-    types: &TypeTable,
-    vars: &VarTable,
-) -> Result<&'static str, Stop> {
+fn wrong_text(alloc: Global, types: &TypeTable, vars: &VarTable) -> Result<&'static str, Stop> {
     for (text, want) in TEXTS {
         if !is_written(alloc, types, vars, text, want)? {
             return Ok(*text);
