@@ -144,7 +144,8 @@ fn read_walk(
     ensures stop { IfErr result (IsStop (walk_fault vocabulary.now scope.now from.now angle route.now to.now)) }
 {
     let from = read_reference(alloc, &vocabulary.types, scope, from, angle)?;
-    let route = read_route(alloc, &vocabulary.names, Followed::DataAndPointers, route)?;
+    let followed = Followed::DataAndPointers;
+    let route = read_route(alloc, &vocabulary.names, followed, angle, route)?;
     let to = read_reference(alloc, &vocabulary.types, scope, to, angle)?;
     Ok(Assertion::Walk(from.into_term(), route, to.into_term()))
 }

@@ -6,7 +6,7 @@ ghost use Rattle.pale_build.specs.Building.{parts_of};
 ghost use Rattle.pale_text.specs.Near.{near_of};
 
 use crate::parts::Parts;
-use crate::takes::{take_bracketed, take_name, take_route};
+use crate::takes::{take_bracketed, take_name, take_place, take_route};
 use pale_syntax::{
     Declaration, FieldDeclaration, FieldForm, PredicateAct, PredicateDeclaration,
     PredicateParameter, TypeAct, TypeDeclaration, VariantDeclaration,
@@ -33,7 +33,8 @@ impl Parts {
             }
             TypeAct::PointerField => {
                 let target = take_name(self.alloc, &mut self.names);
-                let form = FieldForm::Pointer(target, take_route(&mut self.routes));
+                let place = take_place(&mut self.places);
+                let form = FieldForm::Pointer(target, place, take_route(&mut self.routes));
                 let name = take_name(self.alloc, &mut self.names);
                 self.fields.push(FieldDeclaration { name, form })
             }

@@ -68,7 +68,7 @@ base-no-set entries x none = not-true _ (and-parts _ _ (needed _ _ _ (both _ _ n
 
 path-no-set : (types : List TypeEntry) (entries : List Entry) (p : Path) → path_fault types entries p ≡ None → is_set (typed_path types entries p).sort ≡ false
 unfolding path_fault typed_path
-path-no-set types entries p none = along-no-set types p.fields (meaning_of entries p.base).sort (base-no-set entries p.base (both _ _ none).0)
+path-no-set types entries p none = along-no-set types p.fields (meaning_of entries p.base).sort (base-no-set entries p.base (both _ _ (both _ _ none).1).0)
 
 -- ---- new cells
 

@@ -15,7 +15,8 @@ use Rattle.store_core.specs.Tables.{TypeEntry}
 use Rattle.store_logic.specs.Sorts as logic
 use Rattle.store_logic.specs.Sorts.{Scope, TermFits, BaseFits, ArgFits, ArgsFit}
 use Rattle.store_logic.specs.Fits.{MemberTestFits, FitsIn}
-use Rattle.pale_tables.proofs.KnownRoutes.{both, needed, position-within}
+use Rattle.pale_tables.specs.declared.type_names.Followed.TheVariants as followed
+use Rattle.pale_tables.proofs.KnownRoutes.{both, needed, names-of-whole, position-within}
 use Rattle.pale_terms.specs.declared.sort.Sort.{Sort}
 use Rattle.pale_terms.specs.declared.sort.Sort.TheVariants as sort
 use Rattle.pale_terms.specs.declared.terms.TypedTerm.{TypedTerm}
@@ -173,7 +174,7 @@ module _ (v : Vocabulary) (entries : List Entry) (scope : Scope) (stand : StandF
       (Fits-Walk v.types scope _ _ _).1 (record {
         from_type = from.ty;
         from = from.fits;
-        route = route-fits v.types v.names names along more.0;
+        route = route-fits v.types v.names names along (names-of-whole v.names followed.DataAndPointers angle along more.0);
         to_type = to.ty;
         to = to.fits;
       })

@@ -123,7 +123,7 @@ module _ (types : List TypeEntry) (vars : List VarEntry) where
         PathFits types vars (path_in (typed_path types entries p)) (sort_in (typed_path types entries p).sort)
     unfolding path_fault typed_path
     path-fits p none =
-        let parts = both _ _ none in
+        let parts = both _ _ (both _ _ none).1 in
         let m = meaning_of entries p.base in
         ap (option_and_then (λ start. logic.sort_along types start (typed_fields types m.sort p.fields)))
         (meaning-code vars entries all p.base (base-may entries p.base parts.0))

@@ -112,7 +112,7 @@ bool-so names name only f is = by f.form is
     by : (g : FieldForm) → name_if (is_bool g) f ≡ Some name → (f.name.bytes ≡ name) × IsBoolField (kind_of names g)
     by form.Bool is = (cc, tt)
     by (form.Data target) is = absurd cc
-    by (form.Pointer target along) is = absurd cc
+    by (form.Pointer target bracket along) is = absurd cc
 
 data-so : (names : TypeNames) (name : List ℕ) (only : Option ℕ) (f : FieldDeclaration) → data_name f ≡ Some name →
     Suits (IsFollowed DataAndPointers) name (field_entry names only f)
@@ -121,7 +121,7 @@ data-so names name only f is = by f.form is
     by : (g : FieldForm) → name_if (is_data g) f ≡ Some name → (f.name.bytes ≡ name) × IsFollowed DataAndPointers (kind_of names g)
     by form.Bool is = absurd cc
     by (form.Data target) is = (cc, tt)
-    by (form.Pointer target along) is = absurd cc
+    by (form.Pointer target bracket along) is = absurd cc
 
 pointer-so : (names : TypeNames) (name : List ℕ) (only : Option ℕ) (f : FieldDeclaration) → pointer_name f ≡ Some name →
     Suits (IsFollowed DataAndPointers) name (field_entry names only f)
@@ -130,7 +130,7 @@ pointer-so names name only f is = by f.form is
     by : (g : FieldForm) → name_if (is_pointer g) f ≡ Some name → (f.name.bytes ≡ name) × IsFollowed DataAndPointers (kind_of names g)
     by form.Bool is = absurd cc
     by (form.Data target) is = absurd cc
-    by (form.Pointer target along) is = (cc, tt)
+    by (form.Pointer target bracket along) is = (cc, tt)
 
 either : (a b : Bool) → (a || b) ≡ true → (a ≡ true) ⊎ (b ≡ true)
 either true b is = inl refl

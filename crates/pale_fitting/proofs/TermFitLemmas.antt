@@ -175,7 +175,7 @@ set-name entries x none =
 
 pub set-path-name : (entries : List Entry) (p : Path) → set_path_fault entries p ≡ None → IsNameOfSet entries p.base
 unfolding set_path_fault
-set-path-name entries p none = set-name entries p.base (both _ _ none).0
+set-path-name entries p none = set-name entries p.base (both _ _ (both _ _ none).1).0
 
 -- ---- variants
 
@@ -212,7 +212,7 @@ module _ (types : List TypeEntry) (entries : List Entry) (scope : Scope) (stand 
       TermFits types scope (term_at (typed_path types entries p)) (sort_in (typed_path types entries p).sort)
   unfolding path_fault typed_path
   path-fits p none =
-      let parts = both _ _ none in
+      let parts = both _ _ (both _ _ none).1 in
       let m = meaning_of entries p.base in
       ap (option_and_then (λ start. logic.sort_along types start (typed_fields types m.sort p.fields)))
       (meaning-fits entries scope stand p.base (base-may entries p.base parts.0))

@@ -30,7 +30,7 @@ use Rattle.pale_print.specs.StatementTokens.{clause_tokens, statement_tokens}
 abbrev pub field_form_tokens : Name → FieldForm → Tokens
 field_form_tokens f form.Bool after = word (codes "bool") >> name_tokens f >> sign mark.Semicolon >> after
 field_form_tokens f (form.Data ty) after = word (codes "data") >> typed_tokens f ty >> sign mark.Semicolon >> after
-field_form_tokens f (form.Pointer ty r) after =
+field_form_tokens f (form.Pointer ty place r) after =
     word (codes "pointer") >> typed_tokens f ty >> sign mark.LeftBracket >> route_tokens r 0 >> sign mark.RightBracket >>
     sign mark.Semicolon >> after
 

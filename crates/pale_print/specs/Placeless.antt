@@ -164,7 +164,7 @@ placeless_statement = fold-Statement Statement placeless_statement_node
 abbrev pub placeless_form : FieldForm → FieldForm
 placeless_form form.Bool = form.Bool
 placeless_form (form.Data ty) = form.Data (placeless_name ty)
-placeless_form (form.Pointer ty r) = form.Pointer (placeless_name ty) (placeless_route r)
+placeless_form (form.Pointer ty place r) = form.Pointer (placeless_name ty) nowhere (placeless_route r)
 
 abbrev pub placeless_field : FieldDeclaration → FieldDeclaration
 placeless_field f = record { name = placeless_name f.name; form = placeless_form f.form }

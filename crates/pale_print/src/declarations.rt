@@ -48,7 +48,7 @@ fn push_field(text: &mut Writer, field: &FieldDeclaration)
             push_typed(text, &field.name, ty);
             push_mark(text, Mark::Semicolon)
         }
-        FieldForm::Pointer(ty, route) => {
+        FieldForm::Pointer(ty, _, route) => {
             push_word(text, b"pointer");
             push_typed(text, &field.name, ty);
             push_route_in_brackets(text, route);

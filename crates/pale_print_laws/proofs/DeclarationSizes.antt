@@ -35,7 +35,7 @@ use Rattle.pale_print_laws.proofs.StatementSizes.{clause_size, clause_takes, bra
 abbrev pub form_size : FieldForm → ℕ
 form_size form.Bool = 3
 form_size (form.Data ty) = 5
-form_size (form.Pointer ty r) = suc (suc (suc (suc (suc (route_size r 0 + 2)))))
+form_size (form.Pointer ty place r) = suc (suc (suc (suc (suc (route_size r 0 + 2)))))
 
 abbrev pub field_size : FieldDeclaration → ℕ
 field_size f = form_size f.form
@@ -92,7 +92,7 @@ declaration_size (declaration.Procedure p) = procedure_size p
 form_takes : (x : Name) (f : FieldForm) → Takes (field_form_tokens x f) (form_size f)
 form_takes x form.Bool = record { takes = λ after. omega arith }
 form_takes x (form.Data ty) = record { takes = λ after. omega arith }
-form_takes x (form.Pointer ty r) = record {
+form_takes x (form.Pointer ty place r) = record {
   takes = λ after.
       let e = (route_takes r 0).takes (sign mark.RightBracket >> sign mark.Semicolon >> after) in omega arith;
 }

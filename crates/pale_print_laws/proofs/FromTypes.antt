@@ -6,6 +6,7 @@ use Rattle.pale_syntax.specs.declared.grammar.act.TypeAct.TheVariants as types
 use Rattle.pale_syntax.specs.declared.grammar.part.ProgramPart.TheVariants as part
 use Rattle.pale_text.specs.declared.token.Mark.TheVariants as mark
 use Rattle.pale_text.specs.declared.token.Token.{Token}
+use Rattle.pale_text.specs.Tokens.{place_of}
 use Rattle.pale_syntax.specs.declared.tree.names.Name.{Name}
 use Rattle.pale_syntax.specs.declared.tree.declaration.FieldDeclaration.{FieldDeclaration}
 use Rattle.pale_syntax.specs.declared.tree.declaration.FieldForm.TheVariants as form
@@ -76,14 +77,15 @@ pointer_row = record {
   along = λ room last tokens parts goal g before.
       let name = g.4 in
       let ty = name.4.4 in
-      let r = ty.4.4 tt in
+      let opening = ty.4 in
+      let r = opening.4 tt in
       let close = r.3.4 in (
         Some close.0,
         close.1,
         record {
-          field = record { name = name_of (Some name.0); form = form.Pointer (name_of (Some ty.0)) r.2.route };
+          field = record { name = name_of (Some name.0); form = form.Pointer (name_of (Some ty.0)) (place_of (Some opening.0)) r.2.route };
           canonical = (free_name name.0 name.3, (free_name ty.0 ty.3, r.2.canonical));
-          short = omega (arith, one_less g.2, one_less name.2, one_less name.4.2, one_less ty.2, one_less ty.4.2, r.2.short, one_less r.3.2, one_less close.2);
+          short = omega (arith, one_less g.2, one_less name.2, one_less name.4.2, one_less ty.2, one_less opening.2, r.2.short, one_less r.3.2, one_less close.2);
         },
         close.4,
       );

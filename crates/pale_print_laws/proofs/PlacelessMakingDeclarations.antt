@@ -1,6 +1,7 @@
 -- Each act makes the same of parts without their places.
 use Rattle.std.proofs.Common.{◌≡◌, [], ◌∷◌, ◌++◌, Some, None, map, refl, ap, ◌∙◌}
 use Rattle.plain_data.specs.Stacks.{top, rest}
+use Rattle.pale_text.specs.declared.place.Pos.{Pos}
 use Rattle.pale_syntax.specs.declared.tree.names.Name.{Name}
 use Rattle.pale_syntax.specs.declared.tree.route.Route.{Route}
 use Rattle.pale_syntax.specs.declared.tree.assertion.Bracketed.{Bracketed}
@@ -12,11 +13,11 @@ use Rattle.pale_syntax.specs.declared.tree.declaration.PredicateParameter.TheVar
 use Rattle.pale_syntax.specs.MakingParts.{Parts, Near, nameless}
 use Rattle.pale_syntax.specs.MakingRoutes.{routeless}
 use Rattle.pale_syntax.specs.MakingDeclarations.{type_of, predicate_of, procedure_of, after_type, after_predicate, after_procedure}
-use Rattle.pale_print.specs.Placeless.{placeless_field, placeless_variant, placeless_predicate_parameter, placeless_parameter}
+use Rattle.pale_print.specs.Placeless.{nowhere, placeless_field, placeless_variant, placeless_predicate_parameter, placeless_parameter}
 use Rattle.pale_print.specs.Placeless.{placeless_logic, placeless_procedure, placeless_declaration}
 use Rattle.pale_print_laws.proofs.StackLemmas.{map-last}
-use Rattle.pale_print_laws.proofs.PlacelessParts.{placeless_parts, placeless_near, ap2, ap3, name1, name2, names1, names2}
-use Rattle.pale_print_laws.proofs.PlacelessParts.{place1, place2, places2, route1, routes1, bracket1, brackets1, block1, blocks1}
+use Rattle.pale_print_laws.proofs.PlacelessParts.{placeless_parts, placeless_near, ap2, ap4, name1, name2, names1, names2}
+use Rattle.pale_print_laws.proofs.PlacelessParts.{place1, place2, places1, places2, route1, routes1, bracket1, brackets1, block1, blocks1}
 use Rattle.pale_syntax.specs.declared.grammar.act.TypeAct.{TypeAct}
 use Rattle.pale_syntax.specs.declared.grammar.act.TypeAct.TheVariants as type_act
 use Rattle.pale_syntax.specs.declared.grammar.act.PredicateAct.{PredicateAct}
@@ -43,10 +44,15 @@ type_placeless type_act.DataField near parts = λ i. record (placeless_parts par
 type_placeless type_act.PointerField near parts = λ i. record (placeless_parts parts) {
   fields =
       (map-last placeless_field parts.fields
-      (record { name = (top nameless (rest parts.names)); form = form.Pointer (top nameless parts.names) (top routeless parts.routes) })
+      (record {
+        name = (top nameless (rest parts.names));
+        form = form.Pointer (top nameless parts.names) (top nowhere parts.places) (top routeless parts.routes);
+      })
       ∙ ap (λ l. map placeless_field parts.fields ++ l ∷ [])
-      (ap3 (λ (n m : Name) (r : Route). record { name = n; form = form.Pointer m r }) (name2 parts) (name1 parts) (route1 parts))) i;
+      (ap4 (λ (n m : Name) (place : Pos) (r : Route). record { name = n; form = form.Pointer m place r }) (name2 parts) (name1 parts)
+      (place1 parts) (route1 parts))) i;
   names = names2 parts i;
+  places = places1 parts i;
   routes = routes1 parts i;
 }
 type_placeless type_act.EndCommon near parts = refl

@@ -132,7 +132,7 @@ statements_same (s ∷ ss) = let e = statement_same s in let more = statements_s
 form_same : (f : FieldForm) → form_size (placeless_form f) ≡ form_size f
 form_same form.Bool = refl
 form_same (form.Data ty) = refl
-form_same (form.Pointer ty r) = let e = route_same r 0 in omega arith
+form_same (form.Pointer ty place r) = let e = route_same r 0 in omega arith
 
 field_same : (f : FieldDeclaration) → field_size (placeless_field f) ≡ field_size f
 field_same f = form_same f.form

@@ -6,6 +6,7 @@ use Rattle.pale_syntax.specs.declared.grammar.act.PredicateAct.TheVariants as pr
 use Rattle.pale_syntax.specs.declared.grammar.part.ProgramPart.TheVariants as part
 use Rattle.pale_text.specs.declared.token.Mark.TheVariants as mark
 use Rattle.pale_text.specs.declared.token.Token.{Token}
+use Rattle.pale_text.specs.Tokens.{place_of}
 use Rattle.pale_syntax.specs.declared.tree.names.Name.{Name}
 use Rattle.pale_syntax.specs.declared.tree.declaration.FieldForm.TheVariants as form
 use Rattle.pale_syntax.specs.declared.tree.declaration.PredicateParameter.{PredicateParameter}
@@ -64,11 +65,11 @@ pointer_row = record {
       λ opening d took_open. (
         tt,
         λ r f middle route close g took_close. (
-          (tt, tt),
+          (tt, tt, tt),
           λ ending end took_end.
-              done (record { name = name_of (Some name); form = form.Pointer (name_of (Some type)) r }) (Some ending) end (record {
+              done (record { name = name_of (Some name); form = form.Pointer (name_of (Some type)) (place_of (Some opening)) r }) (Some ending) end (record {
                 along = λ after e.
-                    plain took (marked took_name (plain took_colon (marked took_type (plain took_open
+                    plain took (marked took_name (plain took_colon (marked took_type (marked took_open
                     (route.along _ (plain took_close (plain took_end e)))))));
               }),
         ),

@@ -21,7 +21,7 @@ use Rattle.pale_syntax.specs.declared.tree.declaration.PredicateParameter.TheVar
 use Rattle.pale_syntax.specs.declared.tree.declaration.TypeDeclaration.{TypeDeclaration}
 use Rattle.pale_syntax.specs.declared.tree.declaration.VariantDeclaration.{VariantDeclaration}
 use Rattle.pale_syntax.specs.MakingParts.{Parts, nothing}
-use Rattle.pale_syntax.specs.ProgramGrammar.{ProgramSymbol, program_grammar, rows_of, reads, push_name, type as makes, predicate as tells}
+use Rattle.pale_syntax.specs.ProgramGrammar.{ProgramSymbol, program_grammar, rows_of, reads, push_name, mark_place, type as makes, predicate as tells}
 use Rattle.pale_parse.specs.Productions.{program_rules, productions_of}
 use Rattle.pale_parse.specs.ParseTable.{program_table, number_of, mark_number, first_set}
 use Rattle.pale_print.specs.Placeless.{placeless_name, placeless_form, placeless_field, placeless_variant, placeless_type}
@@ -31,7 +31,7 @@ use Rattle.pale_print.specs.DeclarationTokens.{field_form_tokens, field_tokens, 
 use Rattle.pale_syntax.specs.FreeNames.{IsFree}
 use Rattle.pale_print_laws.specs.CanonicalDeclarations.{All, IsCanonicalForm, IsCanonicalField, IsCanonicalVariant}
 use Rattle.pale_print_laws.specs.CanonicalDeclarations.{IsCanonicalType, IsFreePredicateParameter, IsCanonicalPredicate}
-use Rattle.pale_print_laws.proofs.Framework.{ProgramStack, Stops, Aim, Ends, room_now, mark, word, word_with, does, row_ends}
+use Rattle.pale_print_laws.proofs.Framework.{ProgramStack, Stops, Aim, Ends, room_now, mark, mark_with, word, word_with, does, row_ends}
 use Rattle.pale_print_laws.proofs.Framework.{goes, takes, leaves, goes_on, stops_there}
 use Rattle.pale_print_laws.proofs.Stopping.{at_mark}
 use Rattle.pale_print_laws.proofs.Routes.{at_right_bracket, route_read}
@@ -78,12 +78,12 @@ more_fields {aim} {row} {d} {below} {after} room parts done (f ∷ fs) are low n
         types.DataField ∷ reads mark.Semicolon ∷ []) (inr (inl refl))
         (word is_data (room_now d room aim.top low) (word_with (is_name free) (room_now d room aim.top low) (λ n. refl) (mark (room_now d room aim.top low)
         (word_with (is_name is) (room_now d room aim.top low) (λ n. refl) (does (λ n. refl) (mark (room_now d room aim.top low) (row_ends next)))))))
-    by name (form.Pointer ty r) free is next =
+    by name (form.Pointer ty place r) free is next =
         goes_on
         (Read kind.Pointer ∷ Read kind.Name ∷ push_name ∷ reads mark.Colon ∷ Read kind.Name ∷ push_name ∷ reads mark.LeftBracket ∷
-        Once part.Route ∷ reads mark.RightBracket ∷ makes types.PointerField ∷ reads mark.Semicolon ∷ []) (inr (inr (inl refl)))
+        mark_place ∷ Once part.Route ∷ reads mark.RightBracket ∷ makes types.PointerField ∷ reads mark.Semicolon ∷ []) (inr (inr (inl refl)))
         (word is_pointer (room_now d room aim.top low) (word_with (is_name free) (room_now d room aim.top low) (λ n. refl) (mark (room_now d room aim.top low)
-        (word_with (is_name is.0) (room_now d room aim.top low) (λ n. refl) (mark (room_now d room aim.top low)
+        (word_with (is_name is.0) (room_now d room aim.top low) (λ n. refl) (mark_with (room_now d room aim.top low) (λ n. refl)
         (route_read is.1 low (at_right_bracket _) (reads mark.RightBracket ∷ makes types.PointerField ∷ reads mark.Semicolon ∷ []) _
         (mark (room_now d room aim.top low) (does (λ n. refl) (mark (room_now d room aim.top low) (row_ends next))))))))))
 

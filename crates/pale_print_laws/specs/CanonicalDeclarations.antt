@@ -29,7 +29,7 @@ All P (x ∷ xs) = P x × All P xs
 abbrev pub IsCanonicalForm : ℕ → FieldForm → Type 0
 IsCanonicalForm room form.Bool = Unit {0}
 IsCanonicalForm room (form.Data ty) = IsFree ty
-IsCanonicalForm room (form.Pointer ty r) = IsFree ty × IsCanonicalRoute whole room r
+IsCanonicalForm room (form.Pointer ty place r) = IsFree ty × IsCanonicalRoute whole room r
 
 abbrev pub IsCanonicalField : ℕ → FieldDeclaration → Type 0
 IsCanonicalField room f = IsFree f.name × IsCanonicalForm room f.form

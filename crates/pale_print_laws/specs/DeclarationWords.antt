@@ -1,4 +1,5 @@
--- The words of declarations and programs. A procedure keeps the places of `proc` and of its last `}`.
+-- The words of declarations and programs. A pointer field keeps the place of its `[`, and a procedure those of `proc` and of its
+-- last `}`.
 use Rattle.std.specs.Prelude.{List, [], ◌∷◌, codes}
 use Rattle.pale_text.specs.declared.token.Mark.TheVariants as mark
 use Rattle.pale_syntax.specs.declared.tree.declaration.Declaration.{Declaration}
@@ -29,8 +30,8 @@ use Rattle.pale_print_laws.specs.StatementWords.{clause_words, statement_words}
 abbrev pub field_form_words : Name → FieldForm → Words
 field_form_words f form.Bool after = word_of (codes "bool") >> name_words f >> sign mark.Semicolon >> after
 field_form_words f (form.Data ty) after = word_of (codes "data") >> typed_words f ty >> sign mark.Semicolon >> after
-field_form_words f (form.Pointer ty r) after =
-    word_of (codes "pointer") >> typed_words f ty >> sign mark.LeftBracket >> route_words r >> sign mark.RightBracket >>
+field_form_words f (form.Pointer ty place r) after =
+    word_of (codes "pointer") >> typed_words f ty >> sign_at mark.LeftBracket place >> route_words r >> sign mark.RightBracket >>
     sign mark.Semicolon >> after
 
 abbrev pub field_words : FieldDeclaration → Words

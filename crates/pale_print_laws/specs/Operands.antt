@@ -188,7 +188,7 @@ call_operands calls.MakeCall parts = HasOne parts.blocks × HasOne parts.places 
 abbrev pub type_operands : TypeAct → Parts → Type 0
 type_operands types.BoolField parts = HasOne parts.names
 type_operands types.DataField parts = HasTwo parts.names
-type_operands types.PointerField parts = HasTwo parts.names × HasOne parts.routes
+type_operands types.PointerField parts = HasTwo parts.names × HasOne parts.places × HasOne parts.routes
 type_operands types.EndCommon parts = Unit {0}
 type_operands types.AddVariant parts = HasOne parts.names
 type_operands types.AddType parts = HasOne parts.names

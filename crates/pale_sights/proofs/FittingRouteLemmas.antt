@@ -20,7 +20,7 @@ use Rattle.pale_tables.specs.Routes.{is_among, route_fault, route_rules, followe
 use Rattle.pale_tables.specs.Types.{names_in, type_table, type_entry, field_entry, variant_fields, with_fields, kind_of}
 use Rattle.pale_tables.specs.Types.{form_fault, fields_fault, variants_fault, declaration_fault, types_fault}
 use Rattle.pale_tables.proofs.FaultLemmas.{none-then}
-use Rattle.pale_tables.proofs.KnownRoutes.{both, needed}
+use Rattle.pale_tables.proofs.KnownRoutes.{both, needed, names-of-whole}
 use Rattle.pale_tables.proofs.RouteLemmas.{fault_form}
 use Rattle.pale_fitting.specs.Naming.{AreNamesOf}
 use Rattle.pale_fitting.proofs.NamingLemmas.{names-of}
@@ -83,7 +83,8 @@ module _ (names : TypeNames) (types : List TypeEntry) (of : AreNamesOf types nam
   kind-fits : (f : FieldForm) → form_fault names f ≡ None → KindFits types (kind_of names f)
   kind-fits form.Bool none = tt
   kind-fits (form.Data target) none = tt
-  kind-fits (form.Pointer target along) none = route-fits types names of along (route-both names along (both _ _ none).1)
+  kind-fits (form.Pointer target bracket along) none =
+      route-fits types names of along (route-both names along (names-of-whole names follows.Data bracket along (both _ _ none).1))
 
   fields-fit : (only : Option ℕ) (before : List (List ℕ)) (fields : List FieldDeclaration) → fields_fault names before fields ≡ None →
       FieldsFit types (map (field_entry names only) fields)

@@ -49,8 +49,12 @@ after_type BoolField near parts =
 after_type DataField near parts =
     record (with_field (record { name = name_before parts; form = form.Data (last_name parts) }) parts) { names = rest (rest parts.names) }
 after_type PointerField near parts =
-    record (with_field (record { name = name_before parts; form = form.Pointer (last_name parts) (top routeless parts.routes) }) parts) {
+    record (with_field (record {
+      name = name_before parts;
+      form = form.Pointer (last_name parts) (top nowhere parts.places) (top routeless parts.routes);
+    }) parts) {
       names = rest (rest parts.names);
+      places = rest parts.places;
       routes = rest parts.routes;
     }
 after_type EndCommon near parts = record parts { common = parts.fields; fields = [] }

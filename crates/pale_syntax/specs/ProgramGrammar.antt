@@ -110,7 +110,7 @@ rows_of part.Field =
     (Read kind.Data ∷ Read kind.Name ∷ push_name ∷ reads mark.Colon ∷ Read kind.Name ∷ push_name ∷ type types.DataField ∷
     reads mark.Semicolon ∷ []) ∷
     (Read kind.Pointer ∷ Read kind.Name ∷ push_name ∷ reads mark.Colon ∷ Read kind.Name ∷ push_name ∷ reads mark.LeftBracket ∷
-    Once part.Route ∷ reads mark.RightBracket ∷ type types.PointerField ∷ reads mark.Semicolon ∷ []) ∷ []
+    mark_place ∷ Once part.Route ∷ reads mark.RightBracket ∷ type types.PointerField ∷ reads mark.Semicolon ∷ []) ∷ []
 -- ---- routes
 -- Route = Sequence { NextAlternative } .
 rows_of part.Route = (Once part.Sequence ∷ Many part.NextAlternative ∷ []) ∷ []

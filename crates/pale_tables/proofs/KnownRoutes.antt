@@ -24,7 +24,7 @@ use Rattle.pale_tables.specs.declared.routes.Chain.{Chain}
 use Rattle.pale_tables.specs.declared.routes.Chain.TheVariants as chain
 use Rattle.pale_tables.specs.Faults.{Fault, need, ◌>>◌, first_of}
 use Rattle.pale_tables.specs.Routes.{type_named, variant_named, type_or_first, variant_or_first, type_fault, variant_fault}
-use Rattle.pale_tables.specs.Routes.{route_rules, route_fault, route_node, route_of, joined, chained, starred}
+use Rattle.pale_tables.specs.Routes.{route_rules, route_fault, whole_route_fault, route_node, route_of, joined, chained, starred}
 use Rattle.pale_tables.proofs.RouteLemmas.{fault_form, route_form}
 
 -- ---- without a fault
@@ -32,6 +32,12 @@ use Rattle.pale_tables.proofs.RouteLemmas.{fault_form, route_form}
 pub both : (a b : Fault) → (a >> b) ≡ None → (a ≡ None) × (b ≡ None)
 both None b none = (refl, none)
 both (Some r) b none = absurd (cc)
+
+-- a route that has no fault where it stands names nothing that is refused
+pub names-of-whole : (names : TypeNames) (follows : Followed) (place : Pos) (r : Route) → whole_route_fault names follows place r ≡ None →
+    route_fault names follows r ≡ None
+unfolding whole_route_fault
+names-of-whole names follows place r none = (both _ _ none).1
 
 pub needed : (is : Bool) (k : RefusalKind) (place : Pos) → need is k place ≡ None → is ≡ true
 needed true k place none = refl

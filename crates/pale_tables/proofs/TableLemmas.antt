@@ -27,7 +27,7 @@ use Rattle.pale_tables.specs.Names.{new_fault, with_name, each_once}
 use Rattle.pale_tables.specs.Routes.{type_named, variant_named, type_or_first, type_fault}
 use Rattle.pale_tables.specs.Types.{type_names_fault, form_fault, field_fault, fields_fault, with_fields, variants_fault, declaration_fault}
 use Rattle.pale_tables.specs.Types.{kind_of, field_entry, variant_fields, variant_name, type_entry, names_in, type_table, types_fault}
-use Rattle.pale_tables.proofs.KnownRoutes.{Covers, both, needed, type-known, route-known, position-within}
+use Rattle.pale_tables.proofs.KnownRoutes.{Covers, both, needed, names-of-whole, type-known, route-known, position-within}
 
 record IsNew (most : ℕ) (before : List (List ℕ)) (name : List ℕ) : Type 0 where
   new : place_of name before ≡ None
@@ -71,9 +71,9 @@ module _ (names : TypeNames) (types : List TypeEntry) (covers : Covers names typ
   kind-known : (f : FieldForm) → form_fault names f ≡ None → KnowsKind types (kind_of names f)
   kind-known form.Bool none = tt
   kind-known (form.Data target) none = type-known names types covers target none
-  kind-known (form.Pointer target along) none =
+  kind-known (form.Pointer target bracket along) none =
       let parts = both _ _ none in
-      (type-known names types covers target parts.0, route-known names types covers followed.Data along parts.1)
+      (type-known names types covers target parts.0, route-known names types covers followed.Data along (names-of-whole names followed.Data bracket along parts.1))
 
   -- ---- fields
 

@@ -15,7 +15,7 @@ noted_next : (name : Name) (f : FieldForm) (xs : List FieldDeclaration) (names :
     noted (record { name = name; form = f } ∷ xs) names ≡ noted xs (noted (record { name = name; form = f } ∷ []) names)
 noted_next name form.Bool xs names = refl
 noted_next name (form.Data target) xs names = refl
-noted_next name (form.Pointer target along) xs names = refl
+noted_next name (form.Pointer target bracket along) xs names = refl
 
 -- some fields, and then others
 pub noted_append : (xs ys : List FieldDeclaration) (names : TypeNames) → noted (xs ++ ys) names ≡ noted ys (noted xs names)

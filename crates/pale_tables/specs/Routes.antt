@@ -1,5 +1,5 @@
 -- Routes: what they may name, what they stand for, and their faults. (Klarlund and Schwartzbach, POPL 1993, "routing expressions".)
-use Rattle.std.specs.Prelude.{ℕ, Bool, ◌||◌, List, fold, Option, None, option_map, is_some, slice_get, unwrap_or}
+use Rattle.std.specs.Prelude.{ℕ, nat_le, Bool, ◌||◌, List, fold, Option, None, option_map, is_some, slice_get, unwrap_or}
 use Rattle.std.specs.Option.{option_and_then}
 use Rattle.pale_text.specs.declared.place.Pos.{Pos}
 use Rattle.pale_text.specs.declared.refusal.RefusalKind.TheVariants as kind
@@ -18,6 +18,7 @@ use Rattle.pale_tables.specs.declared.type_names.Followed.TheVariants as followe
 use Rattle.pale_tables.specs.declared.routes.Chain.{Chain}
 use Rattle.pale_tables.specs.declared.routes.Chain.TheVariants as chain
 use Rattle.pale_tables.specs.Faults.{Fault, need, ◌>>◌, first_of}
+use Rattle.pale_tables.specs.Sizes.{route_size}
 
 -- ---- names
 
@@ -114,6 +115,11 @@ route_rules names follows (Route-F.Then first others) = first >> first_of (λ ne
 route_rules names follows (Route-F.Or first others) = first >> first_of (λ next. next) others
 route_rules names follows (Route-F.Star round stars) = round
 
--- the first fault of a route
+-- the first fault of a route's names
 unfoldable pub route_fault : TypeNames → Followed → Route → Fault
 route_fault names follows = fold-Route Fault (route_rules names follows)
+
+-- the first fault of a route whose `[` or `<` stands at this place: it has more than 1,024 nodes, whatever it names, or those of its
+-- names
+unfoldable pub whole_route_fault : TypeNames → Followed → Pos → Route → Fault
+whole_route_fault names follows place r = need (nat_le (route_size r) 1024) kind.BigRoute place >> route_fault names follows r

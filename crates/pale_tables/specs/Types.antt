@@ -16,7 +16,7 @@ use Rattle.pale_tables.specs.declared.types.FieldRow.{FieldRow}
 use Rattle.pale_tables.specs.declared.types.TypeRow.{TypeRow}
 use Rattle.pale_tables.specs.Faults.{Fault, ◌>>◌, first_of}
 use Rattle.pale_tables.specs.Names.{with_name, each_once, new_fault}
-use Rattle.pale_tables.specs.Routes.{route_of, route_fault, type_or_first, type_fault}
+use Rattle.pale_tables.specs.Routes.{route_of, whole_route_fault, type_or_first, type_fault}
 
 -- ---- the names
 
@@ -30,17 +30,17 @@ name_if is f = if is then Some f.name.bytes else None
 abbrev pub is_bool : FieldForm → Bool
 is_bool form.Bool = true
 is_bool (form.Data target) = false
-is_bool (form.Pointer target along) = false
+is_bool (form.Pointer target bracket along) = false
 
 abbrev pub is_data : FieldForm → Bool
 is_data form.Bool = false
 is_data (form.Data target) = true
-is_data (form.Pointer target along) = false
+is_data (form.Pointer target bracket along) = false
 
 abbrev pub is_pointer : FieldForm → Bool
 is_pointer form.Bool = false
 is_pointer (form.Data target) = false
-is_pointer (form.Pointer target along) = true
+is_pointer (form.Pointer target bracket along) = true
 
 abbrev pub bool_name : FieldDeclaration → Option (List ℕ)
 bool_name f = name_if (is_bool f.form) f
@@ -82,7 +82,7 @@ names_in types = record {
 abbrev pub kind_of : TypeNames → FieldForm → FieldKind
 kind_of names form.Bool = field.Bool
 kind_of names (form.Data target) = field.Data (type_or_first names target)
-kind_of names (form.Pointer target along) = field.Pointer (type_or_first names target) (route_of names along)
+kind_of names (form.Pointer target bracket along) = field.Pointer (type_or_first names target) (route_of names along)
 
 -- a field that all variants have, or one alone
 abbrev pub field_entry : TypeNames → Option ℕ → FieldDeclaration → FieldEntry
@@ -124,7 +124,7 @@ type_names_fault before (name ∷ names) =
 abbrev pub form_fault : TypeNames → FieldForm → Fault
 form_fault names form.Bool = None
 form_fault names (form.Data target) = type_fault names target
-form_fault names (form.Pointer target along) = type_fault names target >> route_fault names followed.Data along
+form_fault names (form.Pointer target bracket along) = type_fault names target >> whole_route_fault names followed.Data bracket along
 
 -- a field after those with these names, in the whole type
 abbrev pub field_fault : TypeNames → List (List ℕ) → FieldDeclaration → Fault

@@ -6,6 +6,7 @@
 
 mod faults;
 mod names;
+mod route_sizes;
 mod routes;
 mod table;
 mod type_names;

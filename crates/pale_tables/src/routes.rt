@@ -3,11 +3,13 @@
 ghost use Rattle.std.specs.Prelude.{◌≡◌, None, map, IfOk, IfErr, OnOk, if◌then◌else◌};
 ghost use Rattle.store_core.specs.declared.kind.Route.TheVariants as route;
 ghost use Rattle.pale_tables.specs.Faults.{first_of, IsStop};
-ghost use Rattle.pale_tables.specs.Routes.{followed_fault, bool_fault, route_fault, route_of, joined, chained, starred};
+ghost use Rattle.pale_tables.specs.Routes.{followed_fault, bool_fault, route_fault, whole_route_fault, route_of, joined, chained, starred};
 
+use crate::faults::need;
+use crate::route_sizes::is_small;
 use crate::type_names::{Followed, TypeNames};
 use pale_syntax::{Name, Route as SourceRoute};
-use pale_text::{Pos, TextStop};
+use pale_text::{Pos, RefusalKind, TextStop};
 use plain_data::{Boxed, Items};
 use std::alloc::{AllocError, Global};
 use store_core::{ByteList, Route};
@@ -104,7 +106,7 @@ fn read_each(
 {
     let mut found = Items::new(alloc);
     for route in routes {
-        let next = read_route(alloc, names, followed, route)?;
+        let next = read_part(alloc, names, followed, route)?;
         found.push(next)?;
     }
     Ok(found)
@@ -128,7 +130,7 @@ fn read_others(
     Ok(join_all(alloc, chain, first, others)?)
 }
 
-/// A route with its names looked up.
+/// A route, or a part of one, with its names looked up.
 ///
 /// # Errors
 ///
@@ -136,7 +138,7 @@ fn read_others(
 /// `kind` at a field that no type has in the form that the route needs.
 #[cycle(routes)]
 #[tactic(auto, using(crate::proofs::RouteLemmas::route_forms, crate::proofs::FaultLemmas::stops, crate::proofs::FaultLemmas::tails))]
-pub fn read_route(
+fn read_part(
     alloc: Global,
     names: &TypeNames,
     followed: Followed,
@@ -156,7 +158,7 @@ pub fn read_route(
         SourceRoute::IsVariant(ty, v) => Ok(Route::IsVariant(names.find_variant(ty, v)?)),
         SourceRoute::IsBool(f, truth) => Ok(Route::IsBool(read_bool(alloc, names, f)?, *truth)),
         SourceRoute::Then(first, others) => {
-            let first = read_route(alloc, names, followed, first.get())?;
+            let first = read_part(alloc, names, followed, first.get())?;
             read_others(
                 alloc,
                 names,
@@ -167,12 +169,37 @@ pub fn read_route(
             )
         }
         SourceRoute::Or(first, others) => {
-            let first = read_route(alloc, names, followed, first.get())?;
+            let first = read_part(alloc, names, followed, first.get())?;
             read_others(alloc, names, followed, others.as_slice(), Chain::Or, first)
         }
         SourceRoute::Star(round, stars) => {
-            let round = read_route(alloc, names, followed, round.get())?;
+            let round = read_part(alloc, names, followed, round.get())?;
             Ok(add_stars(alloc, round, stars.as_slice())?)
         }
     }
+}
+
+/// A route where it stands, with its names looked up. The place is that of its `[` or `<`.
+///
+/// # Errors
+///
+/// `Refused` is `big-route` at the place where the route has more than 1,024 nodes, before any of its names is looked up: each
+/// step, each test and each `.`, `+` and `*` counts one. Then it is the first fault of its names from the left: `unknown` at a
+/// field that no type has, at a type or a variant that isn't there; `kind` at a field that no type has in the form that the route
+/// needs.
+#[tactic(auto, unfolding(crate::specs::Routes::whole_route_fault))]
+pub fn read_route(
+    alloc: Global,
+    names: &TypeNames,
+    followed: Followed,
+    place: Pos,
+    route: &SourceRoute,
+) -> Result<Route, TextStop>
+    ensures met { OnOk result (whole_route_fault names.now followed place route.now ≡ None) }
+    ensures route { IfOk result (λ made. made ≡ route_of names.now route.now) }
+    ensures stop { IfErr result (IsStop (whole_route_fault names.now followed place route.now)) }
+{
+    need(is_small(route), RefusalKind::BigRoute, place)?;
+    let made = read_part(alloc, names, followed, route)?;
+    Ok(made)
 }

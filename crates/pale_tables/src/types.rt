@@ -66,7 +66,7 @@ fn note_fields(names: &mut TypeNames, fields: &[FieldDeclaration]) -> Result<(),
         match field.form {
             FieldForm::Bool => names.bool_fields.add(name)?,
             FieldForm::Data(_) => names.data_fields.add(name)?,
-            FieldForm::Pointer(_, _) => names.pointer_fields.add(name)?,
+            FieldForm::Pointer(_, _, _) => names.pointer_fields.add(name)?,
         }
     }
     Ok(())
@@ -114,9 +114,9 @@ fn read_form(alloc: Global, names: &TypeNames, form: &FieldForm) -> Result<Field
     match form {
         FieldForm::Bool => Ok(FieldKind::Bool),
         FieldForm::Data(target) => Ok(FieldKind::Data(names.find_type(target)?)),
-        FieldForm::Pointer(target, route) => {
+        FieldForm::Pointer(target, bracket, route) => {
             let target = names.find_type(target)?;
-            let route = read_route(alloc, names, Followed::Data, route)?;
+            let route = read_route(alloc, names, Followed::Data, *bracket, route)?;
             Ok(FieldKind::Pointer(target, route))
         }
     }

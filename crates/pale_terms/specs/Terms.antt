@@ -1,5 +1,5 @@
 -- Paths and terms: what they stand for, and their faults, parts from the left.
-use Rattle.std.specs.Prelude.{ℕ, ◌&&◌, ◌==◌, Bool, true, List, [], ◌∷◌, length, Option, None, option_map, is_some, unwrap_or}
+use Rattle.std.specs.Prelude.{ℕ, nat_le, ◌&&◌, ◌==◌, Bool, true, List, [], ◌∷◌, length, Option, None, option_map, is_some, unwrap_or}
 use Rattle.std.specs.Option.{option_map_or, option_and_then}
 use Rattle.pale_text.specs.declared.place.Pos.{Pos}
 use Rattle.pale_text.specs.declared.refusal.RefusalKind.TheVariants as kind
@@ -106,8 +106,12 @@ abbrev pub fields_fault : List TypeEntry → Sort → List Name → Fault
 fields_fault types from [] = None
 fields_fault types from (f ∷ fields) = field_fault types from f >> fields_fault types (sort_behind types (typed_field types from f)) fields
 
+-- a path has at most 1,024 fields, whatever it names, else it is refused at its first token
+abbrev pub length_fault : Path → Fault
+length_fault p = need (nat_le (length p.fields) 1024) kind.LongPath p.base.place
+
 unfoldable pub path_fault : List TypeEntry → List Entry → Path → Fault
-path_fault types scope p = base_fault scope p.base >> fields_fault types (meaning_of scope p.base).sort p.fields
+path_fault types scope p = length_fault p >> base_fault scope p.base >> fields_fault types (meaning_of scope p.base).sort p.fields
 
 unfoldable pub term_fault : List TypeEntry → List Entry → source.Term → Fault
 term_fault types scope (source_term.Null place) = None
@@ -134,4 +138,4 @@ variant_test_fault types scope t colon v =
 
 -- the name of a set, where the text has a path
 unfoldable pub set_path_fault : List Entry → Path → Fault
-set_path_fault scope p = set_fault scope p.base >> need (length p.fields == 0) kind.Kind p.base.place
+set_path_fault scope p = length_fault p >> set_fault scope p.base >> need (length p.fields == 0) kind.Kind p.base.place

@@ -5,7 +5,7 @@ ghost use Rattle.pale_tables.specs.Faults.{IsStop};
 ghost use Rattle.pale_terms.specs.Scopes.{meaning_of, base_fault, set_fault};
 ghost use Rattle.pale_terms.specs.Terms.{field_under, sort_behind, typed_field, typed_fields, sort_along, typed_path, typed_term};
 ghost use Rattle.pale_terms.specs.Terms.{term_at, term_in, is_reference};
-ghost use Rattle.pale_terms.specs.Terms.{cell_type, variant_under, variant_test, are_alike, field_fault, fields_fault, path_fault, term_fault};
+ghost use Rattle.pale_terms.specs.Terms.{cell_type, variant_under, variant_test, are_alike, field_fault, fields_fault, length_fault, path_fault, term_fault};
 ghost use Rattle.pale_terms.specs.Terms.{reference_fault, compared_fault, cell_fault, variant_test_fault, set_path_fault};
 
 use crate::scope::{Meaning, Scope};
@@ -17,6 +17,9 @@ use plain_data::Items;
 use std::alloc::Global;
 use store_core::{FieldId, TypeId, TypeTable, VariantId};
 use store_logic::{Base, FieldList, Term};
+
+/// The most fields that a path may have.
+const MOST_FIELDS: usize = 1024;
 
 /// A path with its names looked up, and what it stands for.
 #[derive(Drop)]
@@ -150,6 +153,18 @@ fn read_fields(
     Ok((fields, sort))
 }
 
+/// Looks at how many fields a path has.
+fn check_length(path: &Path) -> Result<(), TextStop>
+    ensures met { OnOk result (length_fault path.now ≡ None) }
+    ensures stop { IfErr result (IsStop (length_fault path.now)) }
+{
+    need(
+        path.fields.len() <= MOST_FIELDS,
+        RefusalKind::LongPath,
+        path.base.place,
+    )
+}
+
 /// What a path begins with.
 ///
 /// # Errors
@@ -186,13 +201,14 @@ pub fn read_set(scope: &Scope, name: &Name) -> Result<Meaning, TextStop>
 ///
 /// # Errors
 ///
-/// `Refused` as `read_set` says, and `kind` at a path with fields.
+/// `Refused` is `long-path` at a path with more than 1,024 fields, then as `read_set` says, and `kind` at a path with fields.
 #[tactic(auto, unfolding(crate::specs::Terms::set_path_fault))]
 pub fn read_set_path(scope: &Scope, path: &Path) -> Result<Meaning, TextStop>
     ensures met { OnOk result (set_path_fault scope.now path.now ≡ None) }
     ensures meaning { IfOk result (λ meaning. meaning ≡ meaning_of scope.now path.now.base) }
     ensures stop { IfErr result (IsStop (set_path_fault scope.now path.now)) }
 {
+    check_length(path)?;
     let meaning = read_set(scope, &path.base)?;
     need(path.fields.len() == 0, RefusalKind::Kind, path.base.place)?;
     Ok(meaning)
@@ -202,8 +218,9 @@ pub fn read_set_path(scope: &Scope, path: &Path) -> Result<Meaning, TextStop>
 ///
 /// # Errors
 ///
-/// `Refused` is the first fault from the left: those of its first name, as `read_base` says, and then `type` at a field behind a
-/// truth value, and `unknown` at a field that the type before it doesn't have.
+/// `Refused` is `long-path` at the first name where more than 1,024 fields follow it, before any name is looked up, and then the
+/// first fault from the left: those of its first name, as `read_base` says, and then `type` at a field behind a truth value, and
+/// `unknown` at a field that the type before it doesn't have.
 #[tactic(auto, unfolding(crate::specs::Terms::path_fault, crate::specs::Terms::typed_path))]
 pub fn read_path(
     alloc: Global,
@@ -215,6 +232,7 @@ pub fn read_path(
     ensures path { IfOk result (λ typed. typed ≡ typed_path types.now scope.now path.now) }
     ensures stop { IfErr result (IsStop (path_fault types.now scope.now path.now)) }
 {
+    check_length(path)?;
     let meaning = read_base(scope, &path.base)?;
     let (fields, sort) = read_fields(alloc, types, meaning.sort, path.fields.as_slice())?;
     Ok(TypedPath {

@@ -40,6 +40,10 @@ pub enum RefusalKind {
     BigFormula,
     /// A type has one variant too many.
     ManyVariants,
+    /// A route has too many nodes.
+    BigRoute,
+    /// A path has too many fields.
+    LongPath,
 }
 
 impl RefusalKind {
@@ -63,6 +67,8 @@ impl RefusalKind {
             RefusalKind::ManyNew => "many-new",
             RefusalKind::BigFormula => "big-formula",
             RefusalKind::ManyVariants => "many-variants",
+            RefusalKind::BigRoute => "big-route",
+            RefusalKind::LongPath => "long-path",
         }
     }
 }

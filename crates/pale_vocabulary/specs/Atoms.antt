@@ -14,7 +14,7 @@ use Rattle.store_logic.specs.declared.assertion.Assertion.{Assertion}
 use Rattle.store_logic.specs.declared.assertion.Assertion.TheVariants as assertion
 use Rattle.pale_tables.specs.declared.type_names.Followed.TheVariants as followed
 use Rattle.pale_tables.specs.Faults.{Fault, need, ◌>>◌}
-use Rattle.pale_tables.specs.Routes.{route_fault, route_of}
+use Rattle.pale_tables.specs.Routes.{whole_route_fault, route_of}
 use Rattle.pale_terms.specs.declared.sort.Sort.{Sort}
 use Rattle.pale_terms.specs.declared.sort.Sort.TheVariants as sort
 use Rattle.pale_terms.specs.Sorts.{is_truth, are_of_one_type}
@@ -68,7 +68,7 @@ subset_of scope (source_term.Path p) other = sets_of scope p other
 unfoldable pub walk_fault : Vocabulary → List Entry → source.Term → Pos → Route → source.Term → Fault
 walk_fault vocabulary scope t angle along u =
     reference_fault vocabulary.types scope t angle
-    >> route_fault vocabulary.names followed.DataAndPointers along >> reference_fault vocabulary.types scope u angle
+    >> whole_route_fault vocabulary.names followed.DataAndPointers angle along >> reference_fault vocabulary.types scope u angle
 
 unfoldable pub walk_of : Vocabulary → List Entry → source.Term → Route → source.Term → Assertion
 walk_of vocabulary scope t along u =

@@ -49,8 +49,8 @@ form_passed : (f : Name) (x : FieldForm) → ArePassed (field_form_words f x)
 form_passed f form.Bool = λ places after occur. word_passed (codes "bool") places _ (name_passed f places _ (sign_passed mark.Semicolon places after occur))
 form_passed f (form.Data ty) = λ places after occur.
     word_passed (codes "data") places _ (typed_passed f ty places _ (sign_passed mark.Semicolon places after occur))
-form_passed f (form.Pointer ty r) = λ places after occur.
-    word_passed (codes "pointer") places _ (typed_passed f ty places _ (sign_passed mark.LeftBracket places _ (route_passed r places _
+form_passed f (form.Pointer ty place r) = λ places after occur.
+    word_passed (codes "pointer") places _ (typed_passed f ty places _ (sign_at_passed mark.LeftBracket place places _ (route_passed r places _
     (sign_passed mark.RightBracket places _ (sign_passed mark.Semicolon places after occur)))))
 
 fields_passed : (fs : List FieldDeclaration) → ArePassed (fields_words fs)

@@ -1,6 +1,8 @@
 //! The rows of declarations and types.
 
-use super::symbols::{COLON, EQUALS, NAME, PUSH_NAME, ProgramSymbol, RIGHT_BRACE, SEMICOLON};
+use super::symbols::{
+    COLON, EQUALS, MARK_PLACE, NAME, PUSH_NAME, ProgramSymbol, RIGHT_BRACE, SEMICOLON,
+};
 use ll1_reader::Symbol;
 use pale_syntax::{Act, ProgramKind, ProgramPart, TypeAct};
 use pale_text::Mark;
@@ -57,7 +59,7 @@ pub(super) static DATA_FIELD_DECLARED: [ProgramSymbol; 8] = [
     SEMICOLON,
 ];
 
-pub(super) static POINTER_FIELD_DECLARED: [ProgramSymbol; 11] = [
+pub(super) static POINTER_FIELD_DECLARED: [ProgramSymbol; 12] = [
     Symbol::Read(ProgramKind::Pointer),
     NAME,
     PUSH_NAME,
@@ -65,6 +67,7 @@ pub(super) static POINTER_FIELD_DECLARED: [ProgramSymbol; 11] = [
     NAME,
     PUSH_NAME,
     Symbol::Read(ProgramKind::Mark(Mark::LeftBracket)),
+    MARK_PLACE,
     Symbol::Once(ProgramPart::Route),
     Symbol::Read(ProgramKind::Mark(Mark::RightBracket)),
     Symbol::Act(Act::Type(TypeAct::PointerField)),

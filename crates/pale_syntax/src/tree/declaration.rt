@@ -51,8 +51,8 @@ pub enum FieldForm {
     Bool,
     /// `data f: T;`
     Data(Name),
-    /// `pointer f: T [R];`
-    Pointer(Name, Route),
+    /// `pointer f: T [R];`, with the place of the `[`.
+    Pointer(Name, Pos, Route),
 }
 
 /// `pred p(x: T, set S: T, bool b) = [a];`
