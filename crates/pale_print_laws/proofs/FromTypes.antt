@@ -85,7 +85,17 @@ pointer_row = record {
         record {
           field = record { name = name_of (Some name.0); form = form.Pointer (name_of (Some ty.0)) (place_of (Some opening.0)) r.2.route };
           canonical = (free_name name.0 name.3, (free_name ty.0 ty.3, r.2.canonical));
-          short = omega (arith, one_less g.2, one_less name.2, one_less name.4.2, one_less ty.2, one_less opening.2, r.2.short, one_less r.3.2, one_less close.2);
+          short = omega (
+            arith,
+            one_less g.2,
+            one_less name.2,
+            one_less name.4.2,
+            one_less ty.2,
+            one_less opening.2,
+            r.2.short,
+            one_less r.3.2,
+            one_less close.2,
+          );
         },
         close.4,
       );

@@ -72,8 +72,10 @@ module _ (names : TypeNames) (types : List TypeEntry) (covers : Covers names typ
   kind-known form.Bool none = tt
   kind-known (form.Data target) none = type-known names types covers target none
   kind-known (form.Pointer target bracket along) none =
-      let parts = both _ _ none in
-      (type-known names types covers target parts.0, route-known names types covers followed.Data along (names-of-whole names followed.Data bracket along parts.1))
+      let parts = both _ _ none in (
+        type-known names types covers target parts.0,
+        route-known names types covers followed.Data along (names-of-whole names followed.Data bracket along parts.1),
+      )
 
   -- ---- fields
 
