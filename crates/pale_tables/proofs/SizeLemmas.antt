@@ -1,5 +1,5 @@
 -- Sizes of routes, form by form, and what is left of so many nodes behind them.
-use Rattle.std.proofs.Common.{◌≡◌, ¬◌, ◌≤◌, ◌<◌, ◌+◌, ◌-◌, ℕ, zero, suc, Bool, List, [], ◌∷◌, length, map, drop, Option, Some, None, arith, refl, sym, ap, ◌∙◌}
+use Rattle.std.proofs.Common.{◌≡◌, ◌≤◌, ◌+◌, ◌-◌, ℕ, Bool, List, length, map, Option, Some, None, arith, sym, ap, ◌∙◌}
 use Rattle.std.specs.Prelude.{SomeIff}
 use Rattle.pale_text.specs.declared.place.Pos.{Pos}
 use Rattle.pale_syntax.specs.declared.tree.names.Name.{Name}
@@ -51,7 +51,15 @@ size-Or first others = size_form _ (Route-F.Or first others) (sym (rolls-Or firs
 pub size-Star : (round : Route) (stars : List Pos) → route_size (Star round stars) ≡ route_size round + length stars
 size-Star round stars = size_form _ (Route-F.Star round stars) (sym (rolls-Star round stars))
 
-pub ruleset size_forms = (
+-- ---- what is left
+
+-- what is left behind the one part and then behind the other is what is left behind both
+pub left-both : (o : Option ℕ) (most left one other whole : ℕ) → whole ≡ one + other → one ≤ most → left ≡ most - one →
+    SomeIff o (other ≤ left) (left - other) → SomeIff o (whole ≤ most) (most - whole)
+left-both None most left one other whole is fits at none = λ low. none (omega arith)
+left-both (Some more) most left one other whole is fits at some = (omega (arith, some.0), some.1 ∙ omega (arith, some.0))
+
+pub ruleset sizes = (
   size-Down,
   size-Up,
   size-UpAny,
@@ -63,17 +71,5 @@ pub ruleset size_forms = (
   size-Then,
   size-Or,
   size-Star,
+  left-both,
 )
-
--- ---- what is left
-
--- what is left behind the one part and then behind the other is what is left behind both
-pub left-both : (o : Option ℕ) (most left one other whole : ℕ) → whole ≡ one + other → one ≤ most → left ≡ most - one →
-    SomeIff o (other ≤ left) (left - other) → SomeIff o (whole ≤ most) (most - whole)
-left-both None most left one other whole is fits at none = λ low. none (omega arith)
-left-both (Some left') most left one other whole is fits at some = (omega (arith, some.0), some.1 ∙ omega (arith, some.0))
-
--- one part of those that are left
-pub others-next : (others : List Route) (i : ℕ) (next : Route) → i < length others → drop i others ≡ next ∷ drop (i + 1) others →
-    others_size (map route_size (drop i others)) ≡ suc (route_size next + others_size (map route_size (drop (i + 1) others)))
-others-next others i next within is = ap (λ rest. others_size (map route_size rest)) is

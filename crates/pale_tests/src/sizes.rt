@@ -129,6 +129,55 @@ static REPEATED: &[(&str, Parts, &str, u8)] = &[
         "refused 1:1 big-formula\n",
         3,
     ),
+    // Nodes of a route, and fields of a path.
+    (
+        "pale check",
+        (
+            "type T = { data f: T; pointer p: T [f",
+            "*",
+            None,
+            1_024,
+            "]; }\n",
+        ),
+        "refused 1:36 big-route\n",
+        3,
+    ),
+    (
+        "pale check --limit 1",
+        (
+            "type T = { data f: T; pointer p: T [$",
+            "*",
+            None,
+            100_000,
+            "]; }\n",
+        ),
+        "refused 1:36 big-route\n",
+        3,
+    ),
+    (
+        "pale check",
+        (
+            "type T = { data f: T; } proc p(data x: T) { x",
+            ".f",
+            None,
+            1_025,
+            " = null; }\n",
+        ),
+        "refused 1:45 long-path\n",
+        3,
+    ),
+    (
+        "pale check",
+        (
+            "type T = { data f: T; } proc p(data x: T) { x = x",
+            ".f",
+            None,
+            200_000,
+            "; }\n",
+        ),
+        "refused 1:49 long-path\n",
+        3,
+    ),
     // Steps of a triple.
     (
         "pale check",
