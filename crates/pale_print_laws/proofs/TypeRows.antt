@@ -4,6 +4,7 @@ use Rattle.ll1_reader.specs.declared.symbol.Symbol.TheVariants.{Once, Many}
 use Rattle.pale_syntax.specs.declared.grammar.act.TypeAct.TheVariants as types
 use Rattle.pale_syntax.specs.declared.grammar.act.PredicateAct.TheVariants as predicates
 use Rattle.pale_syntax.specs.declared.grammar.part.ProgramPart.TheVariants as part
+use Rattle.pale_text.specs.declared.place.Pos.{Pos}
 use Rattle.pale_text.specs.declared.token.Mark.TheVariants as mark
 use Rattle.pale_text.specs.declared.token.Token.{Token}
 use Rattle.pale_text.specs.Tokens.{place_of}
@@ -62,18 +63,22 @@ pointer_row = record {
     tt,
     λ colon b took_colon type c took_type. (
       tt,
-      λ opening d took_open. (
-        tt,
-        λ r f middle route close g took_close. (
-          (tt, tt, tt),
-          λ ending end took_end.
-              done (record { name = name_of (Some name); form = form.Pointer (name_of (Some type)) (place_of (Some opening)) r }) (Some ending) end (record {
-                along = λ after e.
-                    plain took (marked took_name (plain took_colon (marked took_type (marked took_open
-                    (route.along _ (plain took_close (plain took_end e)))))));
-              }),
-        ),
-      ),
+      λ opening d took_open.
+          let place : Pos = place_of (Some opening) in (
+            tt,
+            (
+              tt,
+              λ r f middle route close g took_close. (
+                (tt, tt, tt),
+                λ ending end took_end.
+                    done (record { name = name_of (Some name); form = form.Pointer (name_of (Some type)) place r }) (Some ending) end (record {
+                      along = λ after e.
+                          plain took (marked took_name (plain took_colon (marked took_type (marked took_open
+                          (route.along _ (plain took_close (plain took_end e)))))));
+                    }),
+              ),
+            ),
+          ),
     ),
   );
 }
