@@ -35,7 +35,9 @@ fn left_behind(most: usize, route: &Route) -> Option<usize>
             let left = left_behind(most, round.get())?;
             left.checked_sub(stars.len())
         }
-        _ => most.checked_sub(1),
+        Route::Down(_) | Route::Up(_) => most.checked_sub(1),
+        Route::UpAny | Route::Root | Route::Leaf => most.checked_sub(1),
+        Route::IsType(_) | Route::IsVariant(_, _) | Route::IsBool(_, _) => most.checked_sub(1),
     }
 }
 
