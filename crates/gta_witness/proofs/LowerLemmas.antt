@@ -322,6 +322,20 @@ module _ (form : Form) (is_form : IsForm form) (tracks : List Track) (found : Fi
         | inr below ↦ below
       ]
 
+exactly : (n bits : ℕ) → bits_counted n ≡ bits → bits < 18446744073709551615 → n ≡ bits
+exactly n bits counts few = omega arith
+
+-- nothing that is accepted has fewer bits than a bound that has room
+least-bits : (form : Form) (is_form : IsForm form) (tracks : List Track) (found : Findings) (w : Weight) →
+    IsOver form (is_among tracks) found (Some (key w)) → HasRoom w.bits w.nodes → (n : ℕ) (a : Assignment) → Covers n a →
+    Accepts (guide_of form) (automaton_of form) a → w.bits ≤ weight (each_once tracks) n a
+least-bits form is_form tracks found w over room n a covers accepts =
+    let one = tree-of n a covers in
+    let other : Weight = record { bits = bits_counted (weight (each_once tracks) n a); nodes = counted one.0 } in
+    let below = bits-le w other (let b = room.0 in omega arith) (omega arith)
+    (accepted-bound form is_form tracks found (Some (key w)) over n one.0 a covers accepts one.1) in
+    omega arith
+
 -- the tree of a lightest accepting state is a lightest one
 pub lightest-form : (form : Form) (is_form : IsForm form) (tracks : List Track) (found : Findings) (q : ℕ) (w : Weight) (nodes : List TreeNode) →
     IsOver form (is_among tracks) found (Some (key w)) → IsAcceptingAt form found q w → HasRoom w.bits w.nodes → IsTreeTo form tracks found q nodes →
@@ -335,12 +349,7 @@ lightest-form form is_form tracks found q w nodes over accepting room tree = rec
   weighs = exactly (weight (each_once tracks) (length nodes) (assignment_of nodes)) w.bits
       (tree.weighs ∙ ap (λ (x : Weight). x.bits) same) room.0;
   room = (room.0, let few = room.1 in let counts = counts-are in omega arith);
-  least = λ n a covers accepts.
-      let one = tree-of n a covers in
-      let other : Weight = record { bits = bits_counted (weight (each_once tracks) n a); nodes = counted one.0 } in
-      let below = bits-le w other (let b = room.0 in omega arith) (omega arith)
-      (accepted-bound form is_form tracks found (Some (key w)) over n one.0 a covers accepts one.1) in
-      omega arith;
+  least = least-bits form is_form tracks found w over room;
   fewest = λ n m a covers accepts is_weight one.
       let below = accepted-bound form is_form tracks found (Some (key w)) over n m a covers accepts one in
       no-more w.bits w.nodes (weight (each_once tracks) n a) m (length nodes) room.0 below is_weight counts-are;
@@ -352,41 +361,51 @@ lightest-form form is_form tracks found q w nodes over accepting room tree = rec
     counts-are : length nodes ≡ w.nodes
     counts-are = tree.counts ∙ ap (λ (x : Weight). x.nodes) same
 
-    exactly : (n bits : ℕ) → bits_counted n ≡ bits → bits < 18446744073709551615 → n ≡ bits
-    exactly n bits counts few = omega arith
-
     no-more : (bits nodes b m n : ℕ) → bits < 18446744073709551615 →
         min (bits * 4294967296 + nodes) 79228162514264337589248983040 ≤ min (bits_counted b * 4294967296 + counted m) 79228162514264337589248983040 →
         b ≡ bits → n ≡ nodes → n ≤ m
     no-more bits nodes b m n few below same_bits is_nodes = omega arith
 
--- where a lightest accepting state has no room, lightest trees have none
-pub large-form : (form : Form) (is_form : IsForm form) (tracks : List Track) (found : Findings) (q : ℕ) (w : Weight) →
-    IsOver form (is_among tracks) found (Some (key w)) → IsAcceptingAt form found q w → (HasRoom w.bits w.nodes → ⊥) →
-    AreTooLarge (Accepts (guide_of form) (automaton_of form)) (each_once tracks)
-large-form form is_form tracks found q w over accepting full = record {
-  some = (at.weighs.depth, at.weighs.assignment, at.weighs.covers, accepted);
-  no_room = λ n m a least tree room.
-      let below = accepted-bound form is_form tracks found (Some (key w)) over n m a least.covers least.holds tree in
-      let no_less = least.least at.weighs.depth at.weighs.assignment at.weighs.covers accepted in
-      let has = within w.bits w.nodes at.exact (weight (each_once tracks) n a) m at.counts (let e = at.weighs.is_weight in omega arith) room.0 room.1 below in
-      full has;
-}
-  where
-    at : IsStateAt form (each_once tracks) 0 q w.bits
-    at = derived-attained form is_form tracks (State 0 q) w (over.derived (State 0 q) w accepting.settled)
+-- a lightest accepting state has an assignment
+module _ (form : Form) (is_form : IsForm form) (tracks : List Track) (found : Findings) (q : ℕ) (w : Weight)
+    (over : IsOver form (is_among tracks) found (Some (key w))) (accepting : IsAcceptingAt form found q w) where
+  at : IsStateAt form (each_once tracks) 0 q w
+  at = derived-attained form is_form tracks (State 0 q) w (over.derived (State 0 q) w accepting.settled)
 
-    accepted : Accepts (guide_of form) (automaton_of form) at.weighs.assignment
-    accepted = record {
-      depth = at.weighs.depth;
-      covers = at.weighs.covers;
-      accepted = ap (λ (k : ℕ). (automaton_of form).accepting k) at.weighs.is_value ∙ accepting.accepting;
-    }
+  accepts-at : Accepts (guide_of form) (automaton_of form) at.assignment
+  accepts-at = record {
+    depth = at.depth;
+    covers = at.covers;
+    accepted = ap (λ (k : ℕ). (automaton_of form).accepting k) at.is_value ∙ accepting.accepting;
+  }
 
-    within : (bits nodes exact b m : ℕ) → bits_counted exact ≡ bits → b ≤ exact → b < 18446744073709551615 → m < 4294967295 →
-        min (bits * 4294967296 + nodes) 79228162514264337589248983040 ≤ min (bits_counted b * 4294967296 + counted m) 79228162514264337589248983040 →
-        HasRoom bits nodes
-    within bits nodes exact b m counts no_less few_bits few_nodes below = (omega arith, omega arith)
+  -- where it has no room, lightest trees have none
+  pub large-form : (HasRoom w.bits w.nodes → ⊥) → AreTooLarge (Accepts (guide_of form) (automaton_of form)) (each_once tracks)
+  large-form full = record {
+    some = (at.depth, at.assignment, at.covers, accepts-at);
+    no_room = λ n m a least tree room.
+        let below = accepted-bound form is_form tracks found (Some (key w)) over n m a least.covers least.holds tree in
+        let no_less = least.least at.depth at.assignment at.covers accepts-at in
+        full (within w.bits w.nodes (weight (each_once tracks) at.depth at.assignment) (weight (each_once tracks) n a) m at.bits no_less room.0 room.1 below);
+  }
+    where
+      within : (bits nodes exact b m : ℕ) → bits_counted exact ≡ bits → b ≤ exact → b < 18446744073709551615 → m < 4294967295 →
+          min (bits * 4294967296 + nodes) 79228162514264337589248983040 ≤ min (bits_counted b * 4294967296 + counted m) 79228162514264337589248983040 →
+          HasRoom bits nodes
+      within bits nodes exact b m counts no_less few_bits few_nodes below = (omega arith, omega arith)
+
+  -- where it has room, one has
+  pub room-form : HasRoom w.bits w.nodes → AreTooLarge (Accepts (guide_of form) (automaton_of form)) (each_once tracks) → ⊥
+  room-form room large =
+      let is_weight = exactly (weight (each_once tracks) at.depth at.assignment) w.bits at.bits room.0 in
+      large.no_room at.depth at.nodes at.assignment (record {
+        covers = at.covers;
+        holds = accepts-at;
+        least = λ n a covers accepts. let b = least-bits form is_form tracks found w over room n a covers accepts in omega arith;
+      }) at.tree ((let few = room.0 in omega arith), few-nodes at.nodes w.nodes at.counts room.1)
+    where
+      few-nodes : (n nodes : ℕ) → counted n ≡ nodes → nodes < 4294967295 → n < 4294967295
+      few-nodes n nodes counts few = omega arith
 
 pub none-form : (form : Form) (is_form : IsForm form) (tracks : List Track) (found : Findings) → IsOver form (is_among tracks) found None → (a : Assignment) →
     Accepts (guide_of form) (automaton_of form) a → ⊥

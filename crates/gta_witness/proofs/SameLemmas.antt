@@ -14,7 +14,7 @@ use Rattle.gta_reach.specs.declared.form.Form.{Form}
 use Rattle.gta_reach.specs.Form as form
 use Rattle.gta_form.specs.Listed.{IsFormOf}
 use Rattle.gta_witness.specs.declared.lightest.Lightest.{Lightest}
-use Rattle.gta_witness.specs.Lightest.{each_once, IsLightestTree}
+use Rattle.gta_witness.specs.Lightest.{each_once, IsLightestTree, AreTooLarge}
 use Rattle.gta_witness.specs.Answers.{IsLightestOf}
 use Rattle.gta_witness.proofs.LargeLemmas.{AreTooLarge-same}
 
@@ -74,3 +74,9 @@ module _ (g : Spaces) (shelf : Contents) (a : AutoView) (f : Form) (is_auto : Is
       IsLightestOf (form.guide_of f) (form.automaton_of f) weigh answer → IsLightestOf g (automaton_of shelf a) tracks answer
   answer-for weigh tracks answer same_tracks of_form =
       subst (λ (ts : List Track). IsLightestOf g (automaton_of shelf a) ts answer) same_tracks (answer-auto weigh answer of_form)
+
+  pub large-for : (weigh tracks : List Track) → weigh ≡ tracks → AreTooLarge (Accepts g (automaton_of shelf a)) (each_once tracks) →
+      AreTooLarge (Accepts (form.guide_of f) (form.automaton_of f)) (each_once weigh)
+  large-for weigh tracks same_tracks large =
+      subst (λ (ts : List Track). AreTooLarge (Accepts (form.guide_of f) (form.automaton_of f)) (each_once ts)) (sym same_tracks)
+      (AreTooLarge-same (Accepts g (automaton_of shelf a)) (Accepts (form.guide_of f) (form.automaton_of f)) (each_once tracks) accepts-form accepts-auto large)

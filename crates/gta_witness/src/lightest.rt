@@ -47,7 +47,9 @@ pub enum Lightest {
 /// A lightest tree of a form.
 fn least_of(alloc: Global, form: &Form, weigh: &[Track]) -> Result<Lightest, NoMemory>
     requires { IsForm form.now }
-    ensures { IfOk result (IsLightestOf (form_guide form.now) (form_automaton form.now) weigh.now) }
+    ensures value { IfOk result (IsLightestOf (form_guide form.now) (form_automaton form.now) weigh.now) }
+    ensures too_large { IfOk result (λ answer. AreTooLarge (Accepts (form_guide form.now) (form_automaton form.now)) (each_once weigh.now)
+        → answer ≡ Lightest.TooLarge) }
 {
     let weighed = numbers_of(alloc, weigh)?;
     let outcome = search_all(alloc, form, &weighed)?;
