@@ -29,8 +29,7 @@ use Rattle.gta_witness.specs.declared.goal.Weight.{Weight}
 use Rattle.gta_witness.specs.Lightest.{is_among, each_once, HasTree, none, root}
 use Rattle.gta_witness.specs.Rules.{Rule, initial, row, column, cell, low, high, goal_at, bit_cost, nothing, together, counted, bits_counted}
 use Rattle.gta_witness.specs.Rules.{with_node, with_bits}
-use Rattle.gta_witness.specs.Deriving.{Derives, IsDerived}
-use Rattle.gta_witness.specs.Deriving as deriving
+use Rattle.gta_witness.specs.Deriving.{Derives, no_goals, by_rule, IsDerived}
 use Rattle.gta_witness.proofs.SearchLemmas.{together-nothing}
 use Rattle.gta_witness.proofs.WeighingLemmas.{label_weight-none, label_weight-more}
 
@@ -328,8 +327,8 @@ module _ (form : Form) (is_form : IsForm form) (tracks : List Track) where
       (with_bits (bit_cost (is_among tracks) (node_at are.2.space.listing.nodes i).track) are.0) (side-high t i are.0 are.2)))
 
   attained : (goals : List Goal) (w : Weight) → Derives form (is_among tracks) goals w → AreAttained form ts goals w
-  attained _ _ deriving.none = refl
-  attained _ _ (deriving.more premises goals cost goal reason total v rule of_premises of_goals) = (
+  attained _ _ no_goals = refl
+  attained _ _ (by_rule premises goals cost goal reason total v rule of_premises of_goals) = (
     cost total,
     v,
     rule-attained premises cost goal reason total rule (attained premises total of_premises),

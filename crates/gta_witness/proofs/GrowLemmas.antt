@@ -330,6 +330,32 @@ module _ (form : Form) (is_form : IsForm form) (tracks : List Track) (found : Fi
   joined-counts : (n after l r w others : ℕ) → n < 4294967294 → after ≡ suc n → n ≡ r + (l + others) → counted (l + r + 1) ≡ w → after ≡ w + others
   joined-counts n after l r w others few one_more counts is_sum = omega arith
 
+  -- no more nodes are made than are wanted in the end
+  runs-nodes : (tasks : List Task) (wants : List Want) (out : Want) → Runs form tracks found tasks wants (out ∷ []) → out.weight.nodes < 4294967295 →
+      nodes_of wants ≤ out.weight.nodes
+  runs-nodes [] wants out runs few = let e : nodes_of wants ≡ nodes_of (out ∷ []) = ap nodes_of runs in omega arith
+  runs-nodes (Visit s q ∷ tasks) wants out runs few =
+      let later = runs-nodes tasks (record { space = s; state = q; weight = runs.0 } ∷ wants) out runs.3 few in omega arith
+  runs-nodes (Join taken ∷ tasks) [] out runs few = absurd runs
+  runs-nodes (Join taken ∷ tasks) (r ∷ []) out runs few = absurd runs
+  runs-nodes (Join taken ∷ tasks) (r ∷ l ∷ wants) out runs few =
+      let later = runs-nodes tasks (runs.0 ∷ wants) out runs.2 few in
+      let sum : counted (l.weight.nodes + r.weight.nodes + 1) ≡ runs.0.weight.nodes = ap (λ (x : Weight). x.nodes) runs.1.is_sum in
+      omega arith
+
+  -- and the node of a join is one of them
+  pub join-few : (nodes : List TreeNode) (taken : List Track) (tasks : List Task) (made : List (Option ℕ)) (out : Want) →
+      Grows form tracks found nodes (Join taken ∷ tasks) made out → out.weight.nodes < 4294967295 → length nodes < 4294967294
+  join-few nodes taken tasks made out grows few = go grows.wants grows.runs grows.counts
+    where
+      go : (wants : List Want) → Runs form tracks found (Join taken ∷ tasks) wants (out ∷ []) → length nodes ≡ nodes_of wants → length nodes < 4294967294
+      go [] runs counts = absurd runs
+      go (r ∷ []) runs counts = absurd runs
+      go (r ∷ l ∷ wants) runs counts =
+          let later = runs-nodes tasks (runs.0 ∷ wants) out runs.2 few in
+          let sum : counted (l.weight.nodes + r.weight.nodes + 1) ≡ runs.0.weight.nodes = ap (λ (x : Weight). x.nodes) runs.1.is_sum in
+          omega arith
+
   -- two trees are put under a node
   pub join-grows : (nodes : List TreeNode) (taken : List Track) (tasks : List Task) (made : List (Option ℕ)) (out : Want) → length nodes < 4294967294 →
       Grows form tracks found nodes (Join taken ∷ tasks) made out →

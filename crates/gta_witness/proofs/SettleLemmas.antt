@@ -24,7 +24,7 @@ use Rattle.gta_witness.specs.declared.goal.Waiting.{Waiting}
 use Rattle.gta_witness.specs.declared.relax.Search.{Search}
 use Rattle.gta_witness.specs.declared.expand.Lines.{Lines}
 use Rattle.gta_witness.specs.Rules.{initial, row, column, cell, low, high, key, nothing, together}
-use Rattle.gta_witness.specs.Deriving.{Derives, none, more, IsDerived}
+use Rattle.gta_witness.specs.Deriving.{Derives, no_goals, by_rule, IsDerived}
 use Rattle.gta_witness.specs.Searching.{same_goal, Findings, found_by, IsSettled, IsCovered, Totals, IsJustified, IsClosed, IsExpanded, Waits, IsSearch, GoesOn}
 use Rattle.gta_witness.specs.Searching.{AreListed, NoneLighter, Running, IsOver, IsAcceptingAt, IsTaken, AddsLine, AcceptsAt, IsStart}
 use Rattle.gta_witness.proofs.SearchLemmas.{same_goal-refl, same-or, settled-entry, settled-once, IsJustified-kept}
@@ -35,12 +35,12 @@ some-same o a b one other = let e : Some a ≡ Some b = sym one ∙ other in cc
 -- what is justified by what comes by the rules comes by them
 totals-derive : (form : Form) (weighs : ℕ → Bool) (found : Findings) → ((g : Goal) (w : Weight) → IsSettled found g w → IsDerived form weighs g w) →
     (goals : List Goal) (w : Weight) → Totals found goals w → Derives form weighs goals w
-totals-derive form weighs found derived [] w totals = subst (Derives form weighs []) totals none
+totals-derive form weighs found derived [] w totals = subst (Derives form weighs []) totals no_goals
 totals-derive form weighs found derived (goal ∷ goals) w totals =
     let d = derived goal totals.0 totals.2 in
     let others = totals-derive form weighs found derived goals totals.1 totals.3 in
     let sum : together (d.cost d.total) totals.1 ≡ w = ap (λ (x : Weight). together x totals.1) d.weighs_so ∙ totals.4 in
-    subst (Derives form weighs (goal ∷ goals)) sum (more d.premises goals d.cost goal d.reason d.total totals.1 d.rule d.derives others)
+    subst (Derives form weighs (goal ∷ goals)) sum (by_rule d.premises goals d.cost goal d.reason d.total totals.1 d.rule d.derives others)
 
 justified-derived : (form : Form) (weighs : ℕ → Bool) (found : Findings) → ((g : Goal) (w : Weight) → IsSettled found g w → IsDerived form weighs g w) →
     (goal : Goal) (reason : Reason) (w : Weight) → IsJustified form weighs found goal reason w → IsDerived form weighs goal w

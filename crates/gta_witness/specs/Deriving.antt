@@ -8,8 +8,8 @@ use Rattle.gta_witness.specs.Rules.{Rule, nothing, together}
 
 -- each of the goals comes by a rule from goals that come so, and they weigh so much together
 pub data Derives (form : Form) (weighs : ℕ → Bool) : List Goal → Weight → Type 0 where
-  none : Derives form weighs [] nothing
-  more : (premises goals : List Goal) (cost : Weight → Weight) (goal : Goal) (reason : Reason) (total v : Weight) →
+  no_goals : Derives form weighs [] nothing
+  by_rule : (premises goals : List Goal) (cost : Weight → Weight) (goal : Goal) (reason : Reason) (total v : Weight) →
       Rule form weighs premises cost goal reason → Derives form weighs premises total → Derives form weighs goals v →
       Derives form weighs (goal ∷ goals) (together (cost total) v)
 
