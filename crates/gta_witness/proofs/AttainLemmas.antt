@@ -91,7 +91,7 @@ class-is : (xs : List ℕ) (i x : ℕ) → slice_get xs i ≡ Some x → slice_i
 class-is xs i x at = get_or_from_slice_get xs i x 0 at
 
 one-weight : (u v total : Weight) → nothing ≡ v → together u v ≡ total → u ≡ total
-one-weight u v total none sum = sym (together-nothing u) ∙ ap (together u) none ∙ sum
+one-weight u v total empty sum = sym (together-nothing u) ∙ ap (together u) empty ∙ sum
 
 module _ (form : Form) (is_form : IsForm form) (tracks : List Track) where
   abbrev g : Spaces
@@ -242,7 +242,7 @@ module _ (form : Form) (is_form : IsForm form) (tracks : List Track) where
       ∙ class-is space.cells (r * space.width + c) at at_cell in
       let is_root : root_in space at ≡ listed = get_or_from_slice_get space.listing.roots at listed (Leaf 0) at_root in
       let root : root_in space (cell_in space l k) ≡ listed = ap (root_in space) place ∙ is_root in
-      let none = label_weight-none ts empty_label (λ x. refl) in
+      let is_empty = label_weight-none ts empty_label (λ x. refl) in
       record {
         space = space;
         at = at_space;
@@ -259,13 +259,16 @@ module _ (form : Form) (is_form : IsForm form) (tracks : List Track) where
         asks = asks-none space.listing.nodes listed;
         unset = λ x above. refl;
         gives = λ m same. ap (λ (x : Listed). function_in space.listing.nodes x m) root;
-        bits = ap (λ (n : ℕ). bits_counted (n + (u.bits + v.bits))) none;
+        bits = no-label (label_weight ts empty_label) (u.bits + v.bits) is_empty;
         counts = refl;
       }
     where
-      asks-none : (nodes : List ListedNode) (x : Listed) → AsksNoneBelow nodes 0 x
-      asks-none nodes (Leaf p) = tt
-      asks-none nodes (Inner i) = omega arith
+      no-label : (label bits : ℕ) → label ≡ 0 → bits_counted (label + bits) ≡ bits_counted bits
+      no-label label bits empty = omega arith
+
+      asks-none : (listing : List ListedNode) (x : Listed) → AsksNoneBelow listing 0 x
+      asks-none listing (Leaf p) = tt
+      asks-none listing (Inner i) = omega arith
 
   rule-attained : (premises : List Goal) (cost : Weight → Weight) (goal : Goal) (reason : Reason) (total : Weight) →
       Rule form (is_among tracks) premises cost goal reason → AreAttained form ts premises total → IsAttained form ts goal (cost total)

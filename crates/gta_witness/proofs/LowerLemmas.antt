@@ -19,6 +19,7 @@ use Rattle.gta_theory.proofs.AssignmentsLemmas.{Covers-half}
 use Rattle.gta_theory.proofs.AutomataLemmas.{Accepts-at, value-same}
 use Rattle.ws2s_core.specs.declared.track.Track.{Track}
 use Rattle.ws2s_core.specs.declared.label_tree.TreeNode.{TreeNode}
+use Rattle.ws2s_core.specs.LabelTrees.{assignment_of}
 use Rattle.ws2s_core.proofs.LabelTreesLemmas.{Covers-tree}
 use Rattle.gta_reach.specs.declared.form.FormSpace.{FormSpace}
 use Rattle.gta_reach.specs.declared.form.Form.{Form}

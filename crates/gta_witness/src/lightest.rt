@@ -1,6 +1,6 @@
 //! The call.
 
-ghost use Rattle.std.specs.Prelude.{◌≡◌, ◌↔◌, ℕ, IfOk};
+ghost use Rattle.std.specs.Prelude.{◌≡◌, ◌↔◌, ℕ, Some, IfOk};
 ghost use Rattle.gta_theory.specs.Assignments.{Assignment};
 ghost use Rattle.gta_theory.specs.Automata.{Accepts};
 ghost use Rattle.gta_core.specs.Auto.{automaton_of, IsAuto};
@@ -8,9 +8,12 @@ ghost use Rattle.gta_reach.specs.Form.{IsForm, guide_of as form_guide, automaton
 ghost use Rattle.gta_witness.specs.declared.lightest.Lightest.{Lightest};
 ghost use Rattle.gta_witness.specs.Lightest.{is_among, each_once, AreTooLarge};
 ghost use Rattle.gta_witness.specs.Answers.{IsLightestOf};
-ghost use Rattle.gta_witness.specs.Searching.{weighs_in};
+ghost use Rattle.gta_witness.specs.Rules.{key};
+ghost use Rattle.gta_witness.specs.Searching.{weighs_in, found_by, IsOver, IsAcceptingAt};
 
+use crate::goal::Weight;
 use crate::grow::grow;
+use crate::relax::Search;
 use crate::search::search_all;
 use bdd_nodes::Shelf;
 use bdd_walk::NoMemory;
@@ -44,6 +47,29 @@ pub enum Lightest {
     TooLarge,
 }
 
+/// The tree of a lightest accepting state, if it has room.
+fn tree_of(
+    alloc: Global,
+    form: &Form,
+    weigh: &[Track],
+    search: &Search,
+    state: u32,
+    weight: Weight,
+) -> Result<Lightest, NoMemory>
+    requires form { IsForm form.now }
+    requires over { IsOver form.now (is_among weigh.now) (found_by search.now) (Some (key weight)) }
+    requires accepting { IsAcceptingAt form.now (found_by search.now) state weight }
+    ensures value { IfOk result (IsLightestOf (form_guide form.now) (form_automaton form.now) weigh.now) }
+    ensures too_large { IfOk result (λ answer. AreTooLarge (Accepts (form_guide form.now) (form_automaton form.now)) (each_once weigh.now)
+        → answer ≡ Lightest.TooLarge) }
+{
+    if !weight.has_room() {
+        return Ok(Lightest::TooLarge);
+    }
+    let tree = grow(alloc, form, weigh, search, state)?;
+    Ok(Lightest::Tree(tree, weight.bits))
+}
+
 /// A lightest tree of a form.
 fn least_of(alloc: Global, form: &Form, weigh: &[Track]) -> Result<Lightest, NoMemory>
     requires { IsForm form.now }
@@ -53,14 +79,10 @@ fn least_of(alloc: Global, form: &Form, weigh: &[Track]) -> Result<Lightest, NoM
 {
     let weighed = numbers_of(alloc, weigh)?;
     let outcome = search_all(alloc, form, &weighed)?;
-    let Some((state, weight)) = outcome.accepting else {
-        return Ok(Lightest::None);
-    };
-    if !weight.has_room() {
-        return Ok(Lightest::TooLarge);
+    match outcome.accepting {
+        None => Ok(Lightest::None),
+        Some((state, weight)) => tree_of(alloc, form, weigh, &outcome.search, state, weight),
     }
-    let tree = grow(alloc, form, weigh, &outcome.search, state)?;
-    Ok(Lightest::Tree(tree, weight.bits))
 }
 
 /// An accepted tree with the fewest bits on the given tracks, and their number; no tree with as few bits that is accepted
