@@ -6,7 +6,7 @@ use Rattle.gta_theory.specs.Automata.{Automaton, Accepts}
 use Rattle.ws2s_core.specs.declared.track.Track.{Track}
 use Rattle.gta_witness.specs.declared.lightest.Lightest.{Lightest}
 use Rattle.ws2s_core.specs.LabelTrees.{assignment_of}
-use Rattle.gta_witness.specs.Lightest.{each_once, HasTree, AreTooLarge}
+use Rattle.gta_witness.specs.Lightest.{each_once, AreTooLarge}
 use Rattle.gta_witness.specs.Answers.{IsLightestOf}
 
 -- it is so for each property that is the same of assignments of finite sets

@@ -69,7 +69,8 @@ fn status_of(answer: &Answer) -> Status
     ensures { result ≡ status_of answer.now }
 {
     match answer {
-        Answer::Unsatisfiable | Answer::Valid | Answer::Example(_) | Answer::TooLarge => Status::Good,
+        Answer::Unsatisfiable | Answer::Valid | Answer::Example(_) | Answer::TooLarge =>
+            Status::Good,
         Answer::Limit => Status::Limit,
     }
 }

@@ -79,7 +79,14 @@ fn answer_by(
             unless_valid(alloc, text, example, &reduced.breaks, decider, shelf)
         }
         Verdict::TooLarge => {
-            unless_valid(alloc, text, Answer::TooLarge, &reduced.breaks, decider, shelf)
+            unless_valid(
+                alloc,
+                text,
+                Answer::TooLarge,
+                &reduced.breaks,
+                decider,
+                shelf,
+            )
         }
         Verdict::Limit => Ok(Answer::Limit),
     }

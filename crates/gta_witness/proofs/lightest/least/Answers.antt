@@ -1,5 +1,5 @@
 -- The form's answer is the automaton's.
-use Rattle.std.proofs.Common.{◌≡◌, refl, subst}
+use Rattle.std.proofs.Common.{subst}
 use Rattle.gta_theory.specs.Guides.{IsGuide}
 use Rattle.gta_core.specs.Auto.{automaton_of}
 use Rattle.gta_witness.proofs.LargeLemmas.{none-exactly, large-so}
@@ -28,8 +28,8 @@ returns-clause-too_large c =
     let same = c.in_ok-form.ensures.same in
     let guide : IsGuide g = subst IsGuide same.guide c.in_ok-form.ensures.form.guide in (
       large-so g (automaton_of c.args.shelf.now c.args.a.now) c.args.weigh.now c.in_ok-answer.answer (answer-for c.args.g.now c.args.shelf.now c.args.a.now c.in_ok-form.form c.requires
-    (subst IsGuide c.in_ok-form.ensures.same.guide c.in_ok-form.ensures.form.guide) c.in_ok-form.ensures.same c.as_slice.result.now c.args.weigh.now
-    c.in_ok-answer.answer c.as_slice.ensures c.in_ok-answer.ensures.value),
+          (subst IsGuide c.in_ok-form.ensures.same.guide c.in_ok-form.ensures.form.guide) c.in_ok-form.ensures.same c.as_slice.result.now c.args.weigh.now
+          c.in_ok-answer.answer c.as_slice.ensures c.in_ok-answer.ensures.value),
       λ large. c.in_ok-answer.ensures.too_large
           (large-for g c.args.shelf.now c.args.a.now f c.requires guide same c.as_slice.result.now c.args.weigh.now c.as_slice.ensures large),
     )

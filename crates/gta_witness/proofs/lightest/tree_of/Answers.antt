@@ -1,5 +1,5 @@
 -- The tree of a lightest accepting state.
-use Rattle.std.proofs.Common.{◌≡◌, Some}
+use Rattle.std.proofs.Common.{Some}
 use Rattle.gta_witness.specs.Rules.{key}
 use Rattle.gta_witness.specs.Searching.{found_by}
 use Rattle.gta_witness.proofs.LowerLemmas.{lightest-form, large-form, room-form, readable-form}

@@ -1,6 +1,5 @@
 -- A class has its weight by a state.
-use Rattle.std.proofs.Common.{◌≡◌, Some, None, sym, ap, ◌∙◌}
-use Rattle.gta_witness.specs.declared.goal.Found.{Found}
+use Rattle.std.proofs.Common.{◌≡◌, Some, None, ◌∙◌}
 use Rattle.gta_witness.proofs.read.member_of.Goals as goal
 
 pub unreachable-requires : goal.unreachable-requires

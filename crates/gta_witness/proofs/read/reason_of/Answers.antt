@@ -1,5 +1,5 @@
 -- What is settled is found.
-use Rattle.std.proofs.Common.{◌≡◌, Some, None, sym, ◌∙◌}
+use Rattle.std.proofs.Common.{◌≡◌, Some, None, ◌∙◌}
 use Rattle.gta_witness.proofs.read.reason_of.Goals as goal
 
 pub unreachable-requires : goal.unreachable-requires
