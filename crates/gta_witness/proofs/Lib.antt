@@ -4,6 +4,7 @@ pub mod SettleLemmas
 pub mod WeighingLemmas
 pub mod AttainLemmas
 pub mod ReadLemmas
+pub mod ThereLemmas
 pub mod LowerLemmas
 pub mod LargeLemmas
 pub mod SameLemmas

@@ -44,7 +44,7 @@ label_of-more (y ∷ ys) x t = elim (cases_Bool (eqb y.0 t)) [
       (ap (λ (b : Bool). (b || label_of ys t) || eqb x.0 t) apart)
 ]
 
-goal_at-same : (s t : ℕ) (x y : Listed) → goal_at s x ≡ goal_at t y → (s ≡ t) × (x ≡ y)
+pub goal_at-same : (s t : ℕ) (x y : Listed) → goal_at s x ≡ goal_at t y → (s ≡ t) × (x ≡ y)
 goal_at-same s t (Leaf q) (Leaf p) e = (cc, let f : q ≡ p = cc in ap Leaf f)
 goal_at-same s t (Inner i) (Inner j) e = (cc, let f : i ≡ j = cc in ap Inner f)
 goal_at-same s t (Leaf q) (Inner j) e = absurd cc
@@ -57,7 +57,9 @@ no-bits : (w : Weight) → w.bits ≤ 18446744073709551615 → with_bits 0 w ≡
 no-bits w within = let bits : bits_counted (0 + w.bits) ≡ w.bits = omega arith in λ i. record { bits = bits i; nodes = w.nodes }
 
 more-bits : (k i j : ℕ) (w : Weight) → k ≡ i + j → with_bits k w ≡ with_bits j (with_bits i w)
-more-bits k i j w sum = let bits : bits_counted (k + w.bits) ≡ bits_counted (j + bits_counted (i + w.bits)) = omega arith in λ n. record { bits = bits n; nodes = w.nodes }
+more-bits k i j w sum =
+    let bits : bits_counted (k + w.bits) ≡ bits_counted (j + bits_counted (i + w.bits)) = omega arith in
+    λ n. record { bits = bits n; nodes = w.nodes }
 
 module _ (form : Form) (tracks : List Track) (found : Findings) (readable : IsReadable form tracks found) where
   -- at the state
@@ -104,7 +106,7 @@ module _ (form : Form) (tracks : List Track) (found : Findings) (readable : IsRe
     unfolding nodes
     ordered = (readable.is_form.spaces s climbs.space climbs.at_space).ordered
 
-    justified-by : (reason : Reason) → HasReason found goal reason → IsJustified form (is_among tracks) found goal reason climbs.weight
+    pub justified-by : (reason : Reason) → HasReason found goal reason → IsJustified form (is_among tracks) found goal reason climbs.weight
     justified-by reason has =
         let j = readable.justified goal has.entry has.there in
         let e = (settled-entry found goal climbs.weight has.entry climbs.settled has.there).1 in
@@ -258,57 +260,8 @@ module _ (form : Form) (tracks : List Track) (found : Findings) (readable : IsRe
             or-no true = refl
             or-no false = refl
 
-    -- no state and no node has its weight by a state of a class
-    pub no-member : (l : ℕ) → HasReason found goal (Member l) → ⊥
-    no-member l has = let j = justified-by (Member l) has in pick j.premises j.cost goal (Member l) j.rule refl refl
-      where
-        no-row : (t class : ℕ) (x : Listed) → Row t class ≡ goal_at s x → ⊥
-        no-row t class (Leaf q) e = cc
-        no-row t class (Inner i) e = cc
-
-        no-column : (t class : ℕ) (x : Listed) → Column t class ≡ goal_at s x → ⊥
-        no-column t class (Leaf q) e = cc
-        no-column t class (Inner i) e = cc
-
-        pick : (premises : List Goal) (cost : Weight → Weight) (g : Goal) (reason : Reason) → Rule form (is_among tracks) premises cost g reason →
-            g ≡ goal → reason ≡ Member l → ⊥
-        pick _ _ _ _ (initial t space at) e r = cc
-        pick _ _ _ _ (row t q' class space at at_class) e r = no-row t class climbs.listed (e ∙ climbs.is_goal)
-        pick _ _ _ _ (column t q' class space at at_class) e r = no-column t class climbs.listed (e ∙ climbs.is_goal)
-        pick _ _ _ _ (cell t k c at space listed at_space at_cell at_root) e r = cc
-        pick _ _ _ _ (low t k space node at_space at) e r = cc
-        pick _ _ _ _ (high t k space node at_space at) e r = cc
-
-    -- the classes of a cell are settled
-    pub cell-settled : (k c : ℕ) → HasReason found goal (Cell k c) →
-        ((u : Weight) × IsSettled found (Row s k) u) × ((v : Weight) × IsSettled found (Column s c) v)
-    cell-settled k c has = let j = justified-by (Cell k c) has in pick j.premises j.cost goal (Cell k c) j.total j.rule j.totals refl refl
-      where
-        pick : (premises : List Goal) (cost : Weight → Weight) (g : Goal) (reason : Reason) (total : Weight) →
-            Rule form (is_among tracks) premises cost g reason → Totals found premises total → g ≡ goal → reason ≡ Cell k c →
-            ((u : Weight) × IsSettled found (Row s k) u) × ((v : Weight) × IsSettled found (Column s c) v)
-        pick _ _ _ _ total (initial t space at) totals e is = absurd cc
-        pick _ _ _ _ total (row t q' class space at at_class) totals e is = absurd cc
-        pick _ _ _ _ total (column t q' class space at at_class) totals e is = absurd cc
-        pick _ _ _ _ total (low t i space node at_space at) totals e is = absurd cc
-        pick _ _ _ _ total (high t i space node at_space at) totals e is = absurd cc
-        pick _ _ _ _ total (cell t k' c' at space listed at_space at_cell at_root) totals e is =
-            let same = goal_at-same t s listed climbs.listed (e ∙ climbs.is_goal) in
-            let is_k : k' ≡ k = cc in
-            let is_c : c' ≡ c = cc in (
-              (
-                totals.0,
-                subst (λ (x : ℕ). IsSettled found (Row x k) totals.0) same.0 (subst (λ (x : ℕ). IsSettled found (Row t x) totals.0) is_k totals.2),
-              ),
-              (
-                totals.3.0,
-                subst (λ (x : ℕ). IsSettled found (Column x c) totals.3.0) same.0
-                    (subst (λ (x : ℕ). IsSettled found (Column t x) totals.3.0) is_c totals.3.2),
-              ),
-            )
-
     -- a node stands after its sides
-    side-before : (i : ℕ) (is_high : Bool) → HasReason found goal (Side i is_high) →
+    pub side-before : (i : ℕ) (is_high : Bool) → HasReason found goal (Side i is_high) →
         (rank climbs.listed ≤ i) × (i < length climbs.space.listing.nodes)
     unfolding nodes
     side-before i is_high has = let j = justified-by (Side i is_high) has in pick j.premises j.cost goal (Side i is_high) j.rule refl refl
@@ -342,11 +295,6 @@ module _ (form : Form) (tracks : List Track) (found : Findings) (readable : IsRe
             let is_side : (node_at climbs.space.listing.nodes i).high ≡ climbs.listed =
             ap (λ (n : ListedNode). n.high) (node-is climbs.space.listing.nodes i node at_i) ∙ same.1 in
             (subst (λ (x : Listed). rank x ≤ i) is_side (ordered.high i inside).before, inside)
-
-    -- a side's node is there
-    pub side-there : (i : ℕ) (is_high : Bool) → HasReason found goal (Side i is_high) →
-        (space : FormSpace) × (slice_get form.spaces s ≡ Some space) × (i < length space.listing.nodes)
-    side-there i is_high has = (climbs.space, climbs.at_space, (side-before i is_high has).1)
 
     pub fewer-above : (i : ℕ) (is_high : Bool) → HasReason found goal (Side i is_high) →
         above_in (nodes_in (slice_get form.spaces s)) (Node s i) < above_in (nodes_in (slice_get form.spaces s)) goal
@@ -391,7 +339,8 @@ module _ (form : Form) (tracks : List Track) (found : Findings) (readable : IsRe
             (ap (slice_get form.spaces) (sym same.0) ∙ at) in
             let none = label_weight-none (each_once tracks) (label_of taken) (no-tracks climbs.listed space.initial refl same.1) in (
               first ∙ gives,
-              totals ∙ sum ∙ sym (no-bits climbs.weight (readable.counted goal climbs.weight climbs.settled)) ∙ sym (ap (λ (k : ℕ). with_bits k climbs.weight) none) ∙ climbs.is_sum,
+              totals ∙ sum ∙ sym (no-bits climbs.weight (readable.counted goal climbs.weight climbs.settled))
+                  ∙ sym (ap (λ (k : ℕ). with_bits k climbs.weight) none) ∙ climbs.is_sum,
             )
         pick _ _ _ _ total (row t q' class space at at_class) totals e r sum = absurd cc
         pick _ _ _ _ total (column t q' class space at at_class) totals e r sum = absurd cc
@@ -461,45 +410,6 @@ module _ (form : Form) (tracks : List Track) (found : Findings) (readable : IsRe
       pick _ _ _ _ total (cell t' k c at' space' listed at_space at_cell at_root) totals e r sum = absurd cc
       pick _ _ _ _ total (low t' k space' node at_space at') totals e r sum = absurd cc
       pick _ _ _ _ total (high t' k space' node at_space at') totals e r sum = absurd cc
-
-  -- a class has its weight by a state
-  pub row-member : (t class : ℕ) (u : Weight) → IsSettled found (Row t class) u → (l : ℕ) × HasReason found (Row t class) (Member l)
-  row-member t class u settled =
-      let j = readable.justified (Row t class) settled.entry settled.there in
-      let l = pick j.premises j.cost (Row t class) settled.entry.reason j.rule refl in
-      (l.0, record { entry = settled.entry; there = settled.there; is_reason = l.1 })
-    where
-      other : (s : ℕ) (x : Listed) → goal_at s x ≡ Row t class → ⊥
-      other s (Leaf p) e = cc
-      other s (Inner i) e = cc
-
-      pick : (premises : List Goal) (cost : Weight → Weight) (g : Goal) (reason : Reason) → Rule form (is_among tracks) premises cost g reason →
-          g ≡ Row t class → (l : ℕ) × (reason ≡ Member l)
-      pick _ _ _ _ (initial s space at) e = absurd cc
-      pick _ _ _ _ (row s q class' space at at_class) e = (q, refl)
-      pick _ _ _ _ (column s q class' space at at_class) e = absurd cc
-      pick _ _ _ _ (cell s k c at space listed at_space at_cell at_root) e = absurd (other s listed e)
-      pick _ _ _ _ (low s i space node at_space at) e = absurd (other s node.low e)
-      pick _ _ _ _ (high s i space node at_space at) e = absurd (other s node.high e)
-
-  pub column-member : (t class : ℕ) (u : Weight) → IsSettled found (Column t class) u → (l : ℕ) × HasReason found (Column t class) (Member l)
-  column-member t class u settled =
-      let j = readable.justified (Column t class) settled.entry settled.there in
-      let l = pick j.premises j.cost (Column t class) settled.entry.reason j.rule refl in
-      (l.0, record { entry = settled.entry; there = settled.there; is_reason = l.1 })
-    where
-      other : (s : ℕ) (x : Listed) → goal_at s x ≡ Column t class → ⊥
-      other s (Leaf p) e = cc
-      other s (Inner i) e = cc
-
-      pick : (premises : List Goal) (cost : Weight → Weight) (g : Goal) (reason : Reason) → Rule form (is_among tracks) premises cost g reason →
-          g ≡ Column t class → (l : ℕ) × (reason ≡ Member l)
-      pick _ _ _ _ (initial s space at) e = absurd cc
-      pick _ _ _ _ (row s q class' space at at_class) e = absurd cc
-      pick _ _ _ _ (column s q class' space at at_class) e = (q, refl)
-      pick _ _ _ _ (cell s k c at space listed at_space at_cell at_root) e = absurd (other s listed e)
-      pick _ _ _ _ (low s i space node at_space at) e = absurd (other s node.low e)
-      pick _ _ _ _ (high s i space node at_space at) e = absurd (other s node.high e)
 
   index-is : (xs : List ℕ) (i x : ℕ) → slice_get xs i ≡ Some x → slice_index xs i ≡ x
   index-is xs i x at = get_or_from_slice_get xs i x 0 at

@@ -3,8 +3,8 @@ use Rattle.std.proofs.Common.{sym, subst}
 use Rattle.gta_witness.specs.declared.goal.Goal.TheVariants.{State}
 use Rattle.gta_witness.specs.Searching.{found_by}
 use Rattle.gta_witness.specs.Reading.{HasReason, Climbs}
-use Rattle.gta_witness.proofs.ReadLemmas.{Climbs-first, Climbs-side, has-space, initial-step, cell-step, fewer-above, no-member, side-there, cell-settled, row-member}
-use Rattle.gta_witness.proofs.ReadLemmas.{column-member}
+use Rattle.gta_witness.proofs.ReadLemmas.{Climbs-first, Climbs-side, has-space, initial-step, cell-step, fewer-above}
+use Rattle.gta_witness.proofs.ThereLemmas.{no-member, side-there, cell-settled, row-member, column-member}
 use Rattle.gta_witness.proofs.read.step_of.Goals as goal
 
 pub loop-tracks-init : goal.loop-tracks-init
