@@ -14,7 +14,7 @@ use gta_witness::{Lightest, least};
 use plain_data::Items;
 use plain_writer::Writer;
 use std::alloc::{AllocError, Global};
-use ws2s_core::{Guide, LabelTree, Track, TrackList};
+use ws2s_core::{Guide, Track, TrackList};
 
 /// Writes the number of states of each space, in order.
 fn write_states(g: &Guide, a: &Auto, out: &mut Writer) {
