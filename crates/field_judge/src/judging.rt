@@ -83,6 +83,8 @@ fn judge_laid_out(
             let (store, cell) = fork_of(alloc, l, f, &tree)?;
             Ok(FieldJudged::Ambiguous(store, cell))
         }
+        // No store has room for so many cells.
+        Verdict::TooLarge => Err(AllocError),
         Verdict::Limit => Ok(FieldJudged::Limit),
     }
 }
@@ -96,8 +98,8 @@ fn judge_laid_out(
 ///
 /// # Errors
 ///
-/// Want of memory; also where a weight on the way, the tracks, the spaces or the tree's number of nodes have no room in their
-/// integers.
+/// Want of memory; also where the tracks or the spaces have no room in their integers, and where a cell has two destinations on some
+/// backbone, but each tree of a least one has 2^32 - 1 nodes or more.
 pub fn judge_field(
     alloc: Global,
     types: &TypeTable,

@@ -80,6 +80,7 @@ pub fn verdict_on(
     match verdict_by_passes(alloc, formula, known, passes, tracks, decider, shelf) {
         Ok(Verdict::None) => Ok(Verdict::None),
         Ok(Verdict::Witness(tree, weight)) => Ok(Verdict::Witness(tree, weight)),
+        Ok(Verdict::TooLarge) => Ok(Verdict::TooLarge),
         Ok(Verdict::Limit) | Err(_) => decider.decide(alloc, formula, tracks, shelf),
     }
 }

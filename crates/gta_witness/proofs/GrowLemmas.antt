@@ -31,7 +31,7 @@ use Rattle.gta_witness.specs.declared.grow.Task.{Task}
 use Rattle.gta_witness.specs.declared.grow.Task.TheVariants.{Visit, Join}
 use Rattle.gta_witness.specs.declared.read.Step.{Step}
 use Rattle.gta_witness.specs.Lightest.{each_once}
-use Rattle.gta_witness.specs.Rules.{nothing, counted}
+use Rattle.gta_witness.specs.Rules.{nothing, counted, bits_counted}
 use Rattle.gta_witness.specs.Searching.{Findings, IsSettled}
 use Rattle.gta_witness.specs.Reading.{HasSomeStep}
 use Rattle.gta_witness.specs.Growing.{IsTreeTo, Want, IsBuilt, AreBuilt, Leads, Runs, times_in, nodes_found, rounds, AreSmall, IsForest, nodes_of, Grows}
@@ -85,6 +85,10 @@ named-none (node ∷ nodes) n below =
     let others = named-none nodes n (λ k other at. below (suc k) other at) in
     omega arith
 
+-- bits of two trees under a label, as they are counted
+bits-joined : (label l r u v : ℕ) → bits_counted l ≡ u → bits_counted r ≡ v → bits_counted (label + (l + r)) ≡ bits_counted (label + bits_counted (u + v))
+bits-joined label l r u v is_l is_r = omega arith
+
 below-more : (child : Option ℕ) (k n : ℕ) → k ≤ n → IfSome child (λ j. j < k) → IfSome child (λ j. j < n)
 below-more None k n more inside = inside
 below-more (Some j) k n more inside = omega arith
@@ -110,7 +114,7 @@ module _ (form : Form) (is_form : IsForm form) (tracks : List Track) (found : Fi
     inside = tt;
     is_space = there;
     is_value = value-same g is_form.guide (automaton_of form) is_form.stable s (length nodes) 0 empty_assignment there (λ t p deep. refl) Covers-empty ∙ is_q;
-    weighs = weight-same ts (length nodes) 0 empty_assignment (λ t p deep. refl) Covers-empty ∙ ap (λ (x : Weight). x.bits) is_w;
+    weighs = ap bits_counted (weight-same ts (length nodes) 0 empty_assignment (λ t p deep. refl) Covers-empty) ∙ ap (λ (x : Weight). x.bits) is_w;
   }
 
   pub visit-none : (nodes : List TreeNode) (s q : ℕ) (tasks : List Task) (made : List (Option ℕ)) (out : Want) →
@@ -220,8 +224,8 @@ module _ (form : Form) (is_form : IsForm form) (tracks : List Track) (found : Fi
               ∙ value-same g is_form.guide (automaton_of form) is_form.stable want.space (length (nodes ++ node ∷ [])) (length nodes) a built.is_space
               more covers
               ∙ built.is_value;
-          weighs = ap (weight ts (length (nodes ++ node ∷ []))) (child-kept child built.inside)
-              ∙ weight-same ts (length (nodes ++ node ∷ [])) (length nodes) a more covers ∙ built.weighs;
+          weighs = ap bits_counted (ap (weight ts (length (nodes ++ node ∷ []))) (child-kept child built.inside)
+              ∙ weight-same ts (length (nodes ++ node ∷ [])) (length nodes) a more covers) ∙ built.weighs;
         }
 
     all-kept : (made : List (Option ℕ)) (wants : List Want) → AreBuilt form tracks nodes made wants → AreBuilt form tracks (nodes ++ node ∷ []) made wants
@@ -252,15 +256,15 @@ module _ (form : Form) (is_form : IsForm form) (tracks : List Track) (found : Fi
         ap (λ (p : ℕ). (automaton_of form).step want.space p (value g (automaton_of form) (right g want.space) n (child_at nodes node.right))
         (label_of node.tracks)) at_l
         ∙ ap (λ (p : ℕ). (automaton_of form).step want.space l.state p (label_of node.tracks)) at_r ∙ leads.gives in
-        let weighs : weight ts (suc n) b ≡ want.weight.bits =
-        ap (λ (u : ℕ). label_weight ts (label_of node.tracks) + (u + weight ts n (child_at nodes node.right))) of_left.weighs
-        ∙ ap (λ (u : ℕ). label_weight ts (label_of node.tracks) + (l.weight.bits + u)) of_right.weighs ∙ ap (λ (x : Weight). x.bits) leads.is_sum in
+        let weighs : bits_counted (weight ts (suc n) b) ≡ want.weight.bits =
+        bits-joined (label_weight ts (label_of node.tracks)) (weight ts n (child_at nodes node.left)) (weight ts n (child_at nodes node.right))
+        l.weight.bits r.weight.bits of_left.weighs of_right.weighs ∙ ap (λ (x : Weight). x.bits) leads.is_sum in
         record {
           inside = let e = longer in omega arith;
           is_space = leads.is_space;
           is_value = ap (value g (automaton_of form) want.space (length (nodes ++ node ∷ []))) new-child
               ∙ ap (λ (d : ℕ). value g (automaton_of form) want.space d b) longer ∙ is_value;
-          weighs = ap (weight ts (length (nodes ++ node ∷ []))) new-child ∙ ap (λ (d : ℕ). weight ts d b) longer ∙ weighs;
+          weighs = ap bits_counted (ap (weight ts (length (nodes ++ node ∷ []))) new-child ∙ ap (λ (d : ℕ). weight ts d b) longer) ∙ weighs;
         }
 
     made-inside : (made : List (Option ℕ)) (wants : List Want) → AreBuilt form tracks nodes made wants → times_in made (length nodes) ≡ 0
@@ -325,6 +329,32 @@ module _ (form : Form) (is_form : IsForm form) (tracks : List Track) (found : Fi
   -- few nodes are counted as they are
   joined-counts : (n after l r w others : ℕ) → n < 4294967294 → after ≡ suc n → n ≡ r + (l + others) → counted (l + r + 1) ≡ w → after ≡ w + others
   joined-counts n after l r w others few one_more counts is_sum = omega arith
+
+  -- no more nodes are made than are wanted in the end
+  runs-nodes : (tasks : List Task) (wants : List Want) (out : Want) → Runs form tracks found tasks wants (out ∷ []) → out.weight.nodes < 4294967295 →
+      nodes_of wants ≤ out.weight.nodes
+  runs-nodes [] wants out runs few = let e : nodes_of wants ≡ nodes_of (out ∷ []) = ap nodes_of runs in omega arith
+  runs-nodes (Visit s q ∷ tasks) wants out runs few =
+      let later = runs-nodes tasks (record { space = s; state = q; weight = runs.0 } ∷ wants) out runs.3 few in omega arith
+  runs-nodes (Join taken ∷ tasks) [] out runs few = absurd runs
+  runs-nodes (Join taken ∷ tasks) (r ∷ []) out runs few = absurd runs
+  runs-nodes (Join taken ∷ tasks) (r ∷ l ∷ wants) out runs few =
+      let later = runs-nodes tasks (runs.0 ∷ wants) out runs.2 few in
+      let sum : counted (l.weight.nodes + r.weight.nodes + 1) ≡ runs.0.weight.nodes = ap (λ (x : Weight). x.nodes) runs.1.is_sum in
+      omega arith
+
+  -- and the node of a join is one of them
+  pub join-few : (nodes : List TreeNode) (taken : List Track) (tasks : List Task) (made : List (Option ℕ)) (out : Want) →
+      Grows form tracks found nodes (Join taken ∷ tasks) made out → out.weight.nodes < 4294967295 → length nodes < 4294967294
+  join-few nodes taken tasks made out grows few = go grows.wants grows.runs grows.counts
+    where
+      go : (wants : List Want) → Runs form tracks found (Join taken ∷ tasks) wants (out ∷ []) → length nodes ≡ nodes_of wants → length nodes < 4294967294
+      go [] runs counts = absurd runs
+      go (r ∷ []) runs counts = absurd runs
+      go (r ∷ l ∷ wants) runs counts =
+          let later = runs-nodes tasks (runs.0 ∷ wants) out runs.2 few in
+          let sum : counted (l.weight.nodes + r.weight.nodes + 1) ≡ runs.0.weight.nodes = ap (λ (x : Weight). x.nodes) runs.1.is_sum in
+          omega arith
 
   -- two trees are put under a node
   pub join-grows : (nodes : List TreeNode) (taken : List Track) (tasks : List Task) (made : List (Option ℕ)) (out : Want) → length nodes < 4294967294 →
@@ -433,7 +463,7 @@ module _ (form : Form) (is_form : IsForm form) (tracks : List Track) (found : Fi
           least = w;
           settled = settled;
           is_value = ap (value g (automaton_of form) 0 (length nodes)) is ∙ end.2.is_value;
-          weighs = ap (weight ts (length nodes)) is ∙ end.2.weighs;
+          weighs = ap bits_counted (ap (weight ts (length nodes)) is) ∙ end.2.weighs;
           counts = let all : nodes_of grows.wants ≡ w.nodes + 0 = ap nodes_of grows.runs in let counts = grows.counts in omega arith;
         }
 

@@ -2,7 +2,10 @@ pub mod SearchLemmas
 pub mod ExpandLemmas
 pub mod SettleLemmas
 pub mod WeighingLemmas
+pub mod AttainLemmas
 pub mod ReadLemmas
+pub mod ThereLemmas
 pub mod LowerLemmas
+pub mod LargeLemmas
 pub mod SameLemmas
 pub mod GrowLemmas

@@ -1,7 +1,7 @@
 -- No assignment weighs less than what was found for its value.
 use Rattle.std.proofs.Common.{◌≡◌, ◌≢◌, ℕ, zero, suc, ◌+◌, ◌*◌, ◌<◌, ◌≤◌, Bool, true, false, List, [], ◌∷◌, Option, Some, None, inl, inr, ◌⊎◌}
 use Rattle.std.proofs.Common.{refl, sym, ap, subst, ◌∙◌, arith, slice_get, length, if◌then◌else◌}
-use Rattle.std.specs.Prelude.{MatchOption, slice_index, nat_lt}
+use Rattle.std.specs.Prelude.{MatchOption, slice_index, nat_lt, min}
 use Rattle.std.proofs.lemmas.Bool.{false≢true, cases_Bool, cases_lt, ltb-true}
 use Rattle.std.proofs.lemmas.Option.{slice_get-get_or}
 use Rattle.labels.specs.Labels.{Label, empty_label, with_below}
@@ -19,6 +19,7 @@ use Rattle.gta_theory.proofs.AssignmentsLemmas.{Covers-half}
 use Rattle.gta_theory.proofs.AutomataLemmas.{Accepts-at, value-same}
 use Rattle.ws2s_core.specs.declared.track.Track.{Track}
 use Rattle.ws2s_core.specs.declared.label_tree.TreeNode.{TreeNode}
+use Rattle.ws2s_core.specs.LabelTrees.{assignment_of}
 use Rattle.ws2s_core.proofs.LabelTreesLemmas.{Covers-tree}
 use Rattle.gta_reach.specs.declared.form.FormSpace.{FormSpace}
 use Rattle.gta_reach.specs.declared.form.Form.{Form}
@@ -28,16 +29,19 @@ use Rattle.gta_witness.specs.declared.goal.Goal.{Goal}
 use Rattle.gta_witness.specs.declared.goal.Goal.TheVariants.{State, Node, Row, Column}
 use Rattle.gta_witness.specs.declared.goal.Reason.TheVariants.{Initial, Member, Cell, Side}
 use Rattle.gta_witness.specs.declared.goal.Weight.{Weight}
-use Rattle.gta_witness.specs.Lightest.{is_among, each_once, HasTree, none, root, IsLightestTree}
-use Rattle.gta_witness.specs.Rules.{initial, row, column, cell, low, high, goal_at, bit_cost, key, nothing, together, counted, with_node, with_bits}
+use Rattle.gta_witness.specs.Lightest.{is_among, each_once, HasTree, none, root, HasRoom, IsLightestTree, AreTooLarge}
+use Rattle.gta_witness.specs.Rules.{initial, row, column, cell, low, high, goal_at, bit_cost, key, nothing, together, counted, bits_counted}
+use Rattle.gta_witness.specs.Rules.{with_node, with_bits}
 use Rattle.gta_witness.specs.Searching.{Findings, IsSettled, IsCovered, IsOver, IsAcceptingAt}
+use Rattle.gta_witness.specs.Reading.{IsReadable}
 use Rattle.gta_witness.specs.Growing.{IsTreeTo}
 use Rattle.gta_witness.proofs.SearchLemmas.{settled-once, together-nothing}
+use Rattle.gta_witness.proofs.AttainLemmas.{IsStateAt, derived-attained, attained-bits}
 use Rattle.gta_witness.proofs.WeighingLemmas.{label_weight-same, label_weight-more, label_weight-le}
 
 -- the order of weights
-bits-le : (u w : Weight) → w.nodes ≤ 4294967295 → key u ≤ key w → u.bits ≤ w.bits
-bits-le u w few below = elim (cases_lt w.bits u.bits) [
+bits-le : (u w : Weight) → u.bits ≤ 18446744073709551615 → w.nodes ≤ 4294967295 → key u ≤ key w → u.bits ≤ w.bits
+bits-le u w counts few below = elim (cases_lt w.bits u.bits) [
   | inl over ↦ absurd (omega arith)
   | inr within ↦ within
 ]
@@ -50,18 +54,28 @@ together-right u v few = omega arith
 
 together-more : (u v w x : Weight) → w.nodes ≤ 4294967295 → x.nodes ≤ 4294967295 → key u ≤ key w → key v ≤ key x →
     key (with_node (together u v)) ≤ key (with_node (together w x))
-together-more u v w x few_w few_x one other =
-    let a = bits-le u w few_w one in
-    let b = bits-le v x few_x other in
-    elim (cases_lt (u.bits + v.bits) (w.bits + x.bits)) [
-      | inl fewer ↦ omega arith
-      | inr same ↦
-          let c : u.bits ≡ w.bits = omega arith in
-          let d : v.bits ≡ x.bits = omega arith in
-          let e : u.nodes ≤ w.nodes = omega arith in
-          let f : v.nodes ≤ x.nodes = omega arith in
-          omega arith
-    ]
+together-more u v w x few_w few_x one other = elim (cases_lt (w.bits + x.bits) 18446744073709551615) [
+  | inl counts ↦
+      let a : u.bits ≤ w.bits = omega arith in
+      let b : v.bits ≤ x.bits = omega arith in
+      elim (cases_lt (u.bits + v.bits) (w.bits + x.bits)) [
+        | inl fewer ↦ omega arith
+        | inr same ↦
+            let c : u.bits ≡ w.bits = omega arith in
+            let d : v.bits ≡ x.bits = omega arith in
+            let e : u.nodes ≤ w.nodes = omega arith in
+            let f : v.nodes ≤ x.nodes = omega arith in
+            omega arith
+      ]
+  | inr last ↦ omega arith
+]
+
+-- more bits on both sides
+bits-more : (i j k : ℕ) (u v : Weight) → j + i ≤ k → key v ≤ key (with_bits j u) → key (with_bits i v) ≤ key (with_bits k u)
+bits-more i j k u v sum below = omega arith
+
+bits-sum : (label l r : ℕ) → bits_counted (label + bits_counted (bits_counted l + bits_counted r)) ≡ bits_counted (label + (l + r))
+bits-sum label l r = omega arith
 
 counted-sum : (l r : ℕ) → counted (counted l + counted r + 1) ≡ counted (suc (l + r))
 counted-sum l r = omega arith
@@ -165,7 +179,8 @@ module _ (form : Form) (is_form : IsForm form) (tracks : List Track) (found : Fi
               (with_bits (label_weight ts (above t m)) u)
               (omega arith) (covered-low (goal_at s node.high) (with_bits (bit_cost (is_among tracks) node.track) u) covered) (λ v high_settled below.
               low-more (State s (function_in space.listing.nodes node.high m)) (with_bits (label_weight ts (above (suc node.track) m)) v)
-              (with_bits (label_weight ts (above t m)) u) (omega arith)
+              (with_bits (label_weight ts (above t m)) u)
+              (bits-more (label_weight ts (above (suc node.track) m)) (bit_cost (is_among tracks) node.track) (label_weight ts (above t m)) u v more below)
               (down k node.high (suc node.track) v (let b = highs.before in omega arith) (let b = highs.before in omega arith) highs.later high_settled)))
           | inr unset ↦
               let is : function_in space.listing.nodes (Inner i) m ≡ function_in space.listing.nodes node.low m =
@@ -261,7 +276,7 @@ module _ (form : Form) (is_form : IsForm form) (tracks : List Track) (found : Fi
 
   -- what a tree of the assignment weighs
   abbrev tree_weight : ℕ → ℕ → Assignment → Weight
-  tree_weight n m a = record { bits = weight ts n a; nodes = counted m }
+  tree_weight n m a = record { bits = bits_counted (weight ts n a); nodes = counted m }
 
   -- no tree of an assignment weighs less
   lower : (n s m : ℕ) (a : Assignment) → HasTree m a → Covers n a → IsSpace g s →
@@ -285,7 +300,7 @@ module _ (form : Form) (is_form : IsForm form) (tracks : List Track) (found : Fi
       let few_right : right_most.nodes ≤ 4294967295 = omega arith in
       let w : Weight = tree_weight (suc n) (suc (i + j)) a in
       let sum : with_bits (label_weight ts (root_label a)) (with_node (together left_most right_most)) ≡ w = (λ k. record {
-        bits = weight ts (suc n) a;
+        bits = bits-sum (label_weight ts (root_label a)) (weight ts n (half false a)) (weight ts n (half true a)) k;
         nodes = counted-sum i j k;
       }) in
       let left_within = together-left left_most right_most few_left in
@@ -299,7 +314,7 @@ module _ (form : Form) (is_form : IsForm form) (tracks : List Track) (found : Fi
 
   -- no tree of what is accepted weighs less than the bound
   pub accepted-bound : (n m : ℕ) (a : Assignment) → Covers n a → Accepts (guide_of form) (automaton_of form) a → HasTree m a →
-      MatchOption bound ⊥ (λ b. b ≤ key (record { bits = weight (each_once tracks) n a; nodes = counted m }))
+      MatchOption bound ⊥ (λ b. b ≤ key (record { bits = bits_counted (weight (each_once tracks) n a); nodes = counted m }))
   accepted-bound n m a covers accepts tree =
       let accepting = Accepts-at g is_form.guide (automaton_of form) is_form.stable n a covers accepts in
       elim (lower n 0 m a tree covers is_form.guide.not_empty) [
@@ -308,35 +323,102 @@ module _ (form : Form) (is_form : IsForm form) (tracks : List Track) (found : Fi
         | inr below ↦ below
       ]
 
+exactly : (n bits : ℕ) → bits_counted n ≡ bits → bits < 18446744073709551615 → n ≡ bits
+exactly n bits counts few = omega arith
+
+-- nothing that is accepted has fewer bits than a bound that has room
+least-bits : (form : Form) (is_form : IsForm form) (tracks : List Track) (found : Findings) (w : Weight) →
+    IsOver form (is_among tracks) found (Some (key w)) → HasRoom w.bits w.nodes → (n : ℕ) (a : Assignment) → Covers n a →
+    Accepts (guide_of form) (automaton_of form) a → w.bits ≤ weight (each_once tracks) n a
+least-bits form is_form tracks found w over room n a covers accepts =
+    let one = tree-of n a covers in
+    let other : Weight = record { bits = bits_counted (weight (each_once tracks) n a); nodes = counted one.0 } in
+    let below = bits-le w other (let b = room.0 in omega arith) (omega arith)
+    (accepted-bound form is_form tracks found (Some (key w)) over n one.0 a covers accepts one.1) in
+    omega arith
+
 -- the tree of a lightest accepting state is a lightest one
 pub lightest-form : (form : Form) (is_form : IsForm form) (tracks : List Track) (found : Findings) (q : ℕ) (w : Weight) (nodes : List TreeNode) →
-    IsOver form (is_among tracks) found (Some (key w)) → IsAcceptingAt form found q w → IsTreeTo form tracks found q nodes →
+    IsOver form (is_among tracks) found (Some (key w)) → IsAcceptingAt form found q w → HasRoom w.bits w.nodes → IsTreeTo form tracks found q nodes →
     IsLightestTree (guide_of form) (automaton_of form) tracks nodes w.bits
-lightest-form form is_form tracks found q w nodes over accepting tree = record {
+lightest-form form is_form tracks found q w nodes over accepting room tree = record {
   accepted = record {
     depth = length nodes;
     covers = Covers-tree nodes;
     accepted = ap (λ (k : ℕ). (automaton_of form).accepting k) tree.is_value ∙ accepting.accepting;
   };
-  weighs = tree.weighs ∙ ap (λ (x : Weight). x.bits) same;
-  least = λ n a covers accepts.
-      let one = tree-of n a covers in
-      let other : Weight = record { bits = weight (each_once tracks) n a; nodes = counted one.0 } in
-      bits-le w other (omega arith) (accepted-bound form is_form tracks found (Some (key w)) over n one.0 a covers accepts one.1);
+  weighs = exactly (weight (each_once tracks) (length nodes) (assignment_of nodes)) w.bits
+      (tree.weighs ∙ ap (λ (x : Weight). x.bits) same) room.0;
+  room = (room.0, let few = room.1 in let counts = counts-are in omega arith);
+  least = least-bits form is_form tracks found w over room;
   fewest = λ n m a covers accepts is_weight one.
       let below = accepted-bound form is_form tracks found (Some (key w)) over n m a covers accepts one in
-      let counts : length nodes ≡ w.nodes = tree.counts ∙ ap (λ (x : Weight). x.nodes) same in
-      no-more w.bits w.nodes (weight (each_once tracks) n a) m (length nodes) below is_weight counts;
+      no-more w.bits w.nodes (weight (each_once tracks) n a) m (length nodes) room.0 below is_weight counts-are;
 }
   where
     same : tree.least ≡ w
     same = settled-once found (State 0 q) tree.least w tree.settled accepting.settled
 
-    no-more : (bits nodes b m n : ℕ) → bits * 4294967296 + nodes ≤ b * 4294967296 + counted m → b ≡ bits → n ≡ nodes → n ≤ m
-    no-more bits nodes b m n below same_bits is_nodes = omega arith
+    counts-are : length nodes ≡ w.nodes
+    counts-are = tree.counts ∙ ap (λ (x : Weight). x.nodes) same
+
+    no-more : (bits nodes b m n : ℕ) → bits < 18446744073709551615 →
+        min (bits * 4294967296 + nodes) 79228162514264337589248983040 ≤ min (bits_counted b * 4294967296 + counted m) 79228162514264337589248983040 →
+        b ≡ bits → n ≡ nodes → n ≤ m
+    no-more bits nodes b m n few below same_bits is_nodes = omega arith
+
+-- a lightest accepting state has an assignment
+module _ (form : Form) (is_form : IsForm form) (tracks : List Track) (found : Findings) (q : ℕ) (w : Weight)
+    (over : IsOver form (is_among tracks) found (Some (key w))) (accepting : IsAcceptingAt form found q w) where
+  at : IsStateAt form (each_once tracks) 0 q w
+  at = derived-attained form is_form tracks (State 0 q) w (over.derived (State 0 q) w accepting.settled)
+
+  accepts-at : Accepts (guide_of form) (automaton_of form) at.assignment
+  accepts-at = record {
+    depth = at.depth;
+    covers = at.covers;
+    accepted = ap (λ (k : ℕ). (automaton_of form).accepting k) at.is_value ∙ accepting.accepting;
+  }
+
+  -- where it has no room, lightest trees have none
+  pub large-form : (HasRoom w.bits w.nodes → ⊥) → AreTooLarge (Accepts (guide_of form) (automaton_of form)) (each_once tracks)
+  large-form full = record {
+    some = (at.depth, at.assignment, at.covers, accepts-at);
+    no_room = λ n m a least tree room.
+        let below = accepted-bound form is_form tracks found (Some (key w)) over n m a least.covers least.holds tree in
+        let no_less = least.least at.depth at.assignment at.covers accepts-at in
+        full (within w.bits w.nodes (weight (each_once tracks) at.depth at.assignment) (weight (each_once tracks) n a) m at.bits no_less room.0 room.1 below);
+  }
+    where
+      within : (bits nodes exact b m : ℕ) → bits_counted exact ≡ bits → b ≤ exact → b < 18446744073709551615 → m < 4294967295 →
+          min (bits * 4294967296 + nodes) 79228162514264337589248983040 ≤ min (bits_counted b * 4294967296 + counted m) 79228162514264337589248983040 →
+          HasRoom bits nodes
+      within bits nodes exact b m counts no_less few_bits few_nodes below = (omega arith, omega arith)
+
+  -- where it has room, one has
+  pub room-form : HasRoom w.bits w.nodes → AreTooLarge (Accepts (guide_of form) (automaton_of form)) (each_once tracks) → ⊥
+  room-form room large =
+      let is_weight = exactly (weight (each_once tracks) at.depth at.assignment) w.bits at.bits room.0 in
+      large.no_room at.depth at.nodes at.assignment (record {
+        covers = at.covers;
+        holds = accepts-at;
+        least = λ n a covers accepts. let b = least-bits form is_form tracks found w over room n a covers accepts in omega arith;
+      }) at.tree ((let few = room.0 in omega arith), few-nodes at.nodes w.nodes at.counts room.1)
+    where
+      few-nodes : (n nodes : ℕ) → counted n ≡ nodes → nodes < 4294967295 → n < 4294967295
+      few-nodes n nodes counts few = omega arith
 
 pub none-form : (form : Form) (is_form : IsForm form) (tracks : List Track) (found : Findings) → IsOver form (is_among tracks) found None → (a : Assignment) →
     Accepts (guide_of form) (automaton_of form) a → ⊥
 none-form form is_form tracks found over a accepts =
     let one = tree-of accepts.depth a accepts.covers in
     accepted-bound form is_form tracks found None over accepts.depth one.0 a accepts.covers accepts one.1
+
+-- what is settled in the end is read off
+pub readable-form : (form : Form) (is_form : IsForm form) (tracks : List Track) (found : Findings) (bound : Option ℕ) →
+    IsOver form (is_among tracks) found bound → IsReadable form tracks found
+readable-form form is_form tracks found bound over = record {
+  is_form = is_form;
+  justified = over.justified;
+  counted = λ goal w settled. attained-bits form is_form tracks goal w (derived-attained form is_form tracks goal w (over.derived goal w settled));
+}

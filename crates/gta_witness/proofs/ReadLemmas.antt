@@ -23,7 +23,7 @@ use Rattle.gta_witness.specs.declared.goal.Weight.{Weight}
 use Rattle.gta_witness.specs.declared.goal.Reason.{Reason}
 use Rattle.gta_witness.specs.declared.goal.Reason.TheVariants.{Initial, Member, Cell, Side}
 use Rattle.gta_witness.specs.Lightest.{is_among, each_once}
-use Rattle.gta_witness.specs.Rules.{Rule, initial, row, column, cell, low, high, goal_at, bit_cost, nothing, together, with_node, with_bits}
+use Rattle.gta_witness.specs.Rules.{Rule, initial, row, column, cell, low, high, goal_at, bit_cost, nothing, together, bits_counted, with_node, with_bits}
 use Rattle.gta_witness.specs.Searching.{Findings, IsSettled, Totals, IsJustified}
 use Rattle.gta_witness.specs.Reading.{IsReadable, HasReason, nodes_in, above_in, IsStepTo, AddsTrack, Climbs}
 use Rattle.gta_witness.proofs.SearchLemmas.{settled-entry, one-premise}
@@ -44,7 +44,7 @@ label_of-more (y ∷ ys) x t = elim (cases_Bool (eqb y.0 t)) [
       (ap (λ (b : Bool). (b || label_of ys t) || eqb x.0 t) apart)
 ]
 
-goal_at-same : (s t : ℕ) (x y : Listed) → goal_at s x ≡ goal_at t y → (s ≡ t) × (x ≡ y)
+pub goal_at-same : (s t : ℕ) (x y : Listed) → goal_at s x ≡ goal_at t y → (s ≡ t) × (x ≡ y)
 goal_at-same s t (Leaf q) (Leaf p) e = (cc, let f : q ≡ p = cc in ap Leaf f)
 goal_at-same s t (Inner i) (Inner j) e = (cc, let f : i ≡ j = cc in ap Inner f)
 goal_at-same s t (Leaf q) (Inner j) e = absurd cc
@@ -53,11 +53,13 @@ goal_at-same s t (Inner i) (Leaf p) e = absurd cc
 node-is : (nodes : List ListedNode) (i : ℕ) (node : ListedNode) → slice_get nodes i ≡ Some node → node_at nodes i ≡ node
 node-is nodes i node at = get_or_from_slice_get nodes i node (record { track = 0; low = Leaf 0; high = Leaf 0 }) at
 
-no-bits : (w : Weight) → with_bits 0 w ≡ w
-no-bits w = let bits : 0 + w.bits ≡ w.bits = omega arith in λ i. record { bits = bits i; nodes = w.nodes }
+no-bits : (w : Weight) → w.bits ≤ 18446744073709551615 → with_bits 0 w ≡ w
+no-bits w within = let bits : bits_counted (0 + w.bits) ≡ w.bits = omega arith in λ i. record { bits = bits i; nodes = w.nodes }
 
 more-bits : (k i j : ℕ) (w : Weight) → k ≡ i + j → with_bits k w ≡ with_bits j (with_bits i w)
-more-bits k i j w sum = let bits : k + w.bits ≡ j + (i + w.bits) = omega arith in λ n. record { bits = bits n; nodes = w.nodes }
+more-bits k i j w sum =
+    let bits : bits_counted (k + w.bits) ≡ bits_counted (j + bits_counted (i + w.bits)) = omega arith in
+    λ n. record { bits = bits n; nodes = w.nodes }
 
 module _ (form : Form) (tracks : List Track) (found : Findings) (readable : IsReadable form tracks found) where
   -- at the state
@@ -73,7 +75,8 @@ module _ (form : Form) (tracks : List Track) (found : Findings) (readable : IsRe
     above = λ t e. absurd (false≢true e);
     weight = w;
     settled = settled;
-    is_sum = ap (λ (k : ℕ). with_bits k w) (label_weight-none (each_once tracks) (label_of []) (λ t. refl)) ∙ no-bits w;
+    is_sum = ap (λ (k : ℕ). with_bits k w) (label_weight-none (each_once tracks) (label_of []) (λ t. refl))
+        ∙ no-bits w (readable.counted (State s q) w settled);
   }
 
   -- a state that is settled is of a space
@@ -103,7 +106,7 @@ module _ (form : Form) (tracks : List Track) (found : Findings) (readable : IsRe
     unfolding nodes
     ordered = (readable.is_form.spaces s climbs.space climbs.at_space).ordered
 
-    justified-by : (reason : Reason) → HasReason found goal reason → IsJustified form (is_among tracks) found goal reason climbs.weight
+    pub justified-by : (reason : Reason) → HasReason found goal reason → IsJustified form (is_among tracks) found goal reason climbs.weight
     justified-by reason has =
         let j = readable.justified goal has.entry has.there in
         let e = (settled-entry found goal climbs.weight has.entry climbs.settled has.there).1 in
@@ -258,7 +261,7 @@ module _ (form : Form) (tracks : List Track) (found : Findings) (readable : IsRe
             or-no false = refl
 
     -- a node stands after its sides
-    side-before : (i : ℕ) (is_high : Bool) → HasReason found goal (Side i is_high) →
+    pub side-before : (i : ℕ) (is_high : Bool) → HasReason found goal (Side i is_high) →
         (rank climbs.listed ≤ i) × (i < length climbs.space.listing.nodes)
     unfolding nodes
     side-before i is_high has = let j = justified-by (Side i is_high) has in pick j.premises j.cost goal (Side i is_high) j.rule refl refl
@@ -336,7 +339,8 @@ module _ (form : Form) (tracks : List Track) (found : Findings) (readable : IsRe
             (ap (slice_get form.spaces) (sym same.0) ∙ at) in
             let none = label_weight-none (each_once tracks) (label_of taken) (no-tracks climbs.listed space.initial refl same.1) in (
               first ∙ gives,
-              totals ∙ sum ∙ sym (no-bits climbs.weight) ∙ sym (ap (λ (k : ℕ). with_bits k climbs.weight) none) ∙ climbs.is_sum,
+              totals ∙ sum ∙ sym (no-bits climbs.weight (readable.counted goal climbs.weight climbs.settled))
+                  ∙ sym (ap (λ (k : ℕ). with_bits k climbs.weight) none) ∙ climbs.is_sum,
             )
         pick _ _ _ _ total (row t q' class space at at_class) totals e r sum = absurd cc
         pick _ _ _ _ total (column t q' class space at at_class) totals e r sum = absurd cc

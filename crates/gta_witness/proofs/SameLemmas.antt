@@ -13,7 +13,10 @@ use Rattle.gta_core.specs.Auto.{AutoView, states_of, automaton_of, IsAuto}
 use Rattle.gta_reach.specs.declared.form.Form.{Form}
 use Rattle.gta_reach.specs.Form as form
 use Rattle.gta_form.specs.Listed.{IsFormOf}
-use Rattle.gta_witness.specs.Lightest.{IsLightestTree}
+use Rattle.gta_witness.specs.declared.lightest.Lightest.{Lightest}
+use Rattle.gta_witness.specs.Lightest.{each_once, IsLightestTree, AreTooLarge}
+use Rattle.gta_witness.specs.Answers.{IsLightestOf}
+use Rattle.gta_witness.proofs.LargeLemmas.{AreTooLarge-same}
 
 module _ (g : Spaces) (shelf : Contents) (a : AutoView) (f : Form) (is_auto : IsAuto g shelf a) (guide : IsGuide g) (same : IsFormOf g shelf a f) where
   below : (n s : ℕ) (x : Assignment) → IsSpace g s → nat_lt (value g (automaton_of shelf a) s n x) (states_of a s) ≡ true
@@ -50,16 +53,30 @@ module _ (g : Spaces) (shelf : Contents) (a : AutoView) (f : Form) (is_auto : Is
       let here = subst (λ (h : Spaces). Accepts h (form.automaton_of f) x) same.guide accepts in
       record { depth = here.depth; covers = here.covers; accepted = sym (same-accepting here.depth x) ∙ here.accepted }
 
-  pub lightest-auto : (tracks : List Track) (nodes : List TreeNode) (w : ℕ) → IsLightestTree (form.guide_of f) (form.automaton_of f) tracks nodes w →
+  lightest-auto : (tracks : List Track) (nodes : List TreeNode) (w : ℕ) → IsLightestTree (form.guide_of f) (form.automaton_of f) tracks nodes w →
       IsLightestTree g (automaton_of shelf a) tracks nodes w
   lightest-auto tracks nodes w lightest = record {
     accepted = accepts-auto (assignment_of nodes) lightest.accepted;
     weighs = lightest.weighs;
+    room = lightest.room;
     least = λ n x covers accepts. lightest.least n x covers (accepts-form x accepts);
     fewest = λ n m x covers accepts is_weight tree. lightest.fewest n m x covers (accepts-form x accepts) is_weight tree;
   }
 
-  pub lightest-for : (weigh tracks : List Track) (nodes : List TreeNode) (w : ℕ) → weigh ≡ tracks →
-      IsLightestTree (form.guide_of f) (form.automaton_of f) weigh nodes w → IsLightestTree g (automaton_of shelf a) tracks nodes w
-  lightest-for weigh tracks nodes w same_tracks lightest =
-      subst (λ (ts : List Track). IsLightestTree g (automaton_of shelf a) ts nodes w) same_tracks (lightest-auto weigh nodes w lightest)
+  answer-auto : (tracks : List Track) (answer : Lightest) → IsLightestOf (form.guide_of f) (form.automaton_of f) tracks answer →
+      IsLightestOf g (automaton_of shelf a) tracks answer
+  answer-auto tracks Lightest.None nothing = λ x accepts. nothing x (accepts-form x accepts)
+  answer-auto tracks (Lightest.Tree nodes w) lightest = lightest-auto tracks nodes w lightest
+  answer-auto tracks Lightest.TooLarge large =
+      AreTooLarge-same (Accepts (form.guide_of f) (form.automaton_of f)) (Accepts g (automaton_of shelf a)) (each_once tracks) accepts-auto accepts-form large
+
+  pub answer-for : (weigh tracks : List Track) (answer : Lightest) → weigh ≡ tracks →
+      IsLightestOf (form.guide_of f) (form.automaton_of f) weigh answer → IsLightestOf g (automaton_of shelf a) tracks answer
+  answer-for weigh tracks answer same_tracks of_form =
+      subst (λ (ts : List Track). IsLightestOf g (automaton_of shelf a) ts answer) same_tracks (answer-auto weigh answer of_form)
+
+  pub large-for : (weigh tracks : List Track) → weigh ≡ tracks → AreTooLarge (Accepts g (automaton_of shelf a)) (each_once tracks) →
+      AreTooLarge (Accepts (form.guide_of f) (form.automaton_of f)) (each_once weigh)
+  large-for weigh tracks same_tracks large =
+      subst (λ (ts : List Track). AreTooLarge (Accepts (form.guide_of f) (form.automaton_of f)) (each_once ts)) (sym same_tracks)
+      (AreTooLarge-same (Accepts g (automaton_of shelf a)) (Accepts (form.guide_of f) (form.automaton_of f)) (each_once tracks) accepts-form accepts-auto large)

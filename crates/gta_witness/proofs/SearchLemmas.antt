@@ -170,6 +170,7 @@ module _ (form : Form) (weighs : ℕ → Bool) (now : ℕ) (old new : Search) (g
       | inr apart ↦ IsJustified-kept form weighs (found_by old) (found_by new) kept-settled g e.reason e.weight
           (is.sound.justified g e (sym (at-other g apart) ∙ there))
     ];
+    derived = λ g w settled. is.sound.derived g w (put-Improves.no_more g w settled);
     passed = λ g w settled. is.sound.passed g w (put-Improves.no_more g w settled);
     waits = λ g e there unsettled. elim (same-or goal g) [
       | inl same ↦

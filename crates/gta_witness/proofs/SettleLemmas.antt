@@ -16,19 +16,43 @@ use Rattle.gta_reach.specs.declared.form.FormSpace.{FormSpace}
 use Rattle.gta_reach.specs.declared.form.Form.{Form}
 use Rattle.gta_witness.specs.declared.goal.Goal.{Goal}
 use Rattle.gta_witness.specs.declared.goal.Goal.TheVariants.{State, Node, Row, Column}
+use Rattle.gta_witness.specs.declared.goal.Reason.{Reason}
 use Rattle.gta_witness.specs.declared.goal.Reason.TheVariants.{Initial}
 use Rattle.gta_witness.specs.declared.goal.Weight.{Weight}
 use Rattle.gta_witness.specs.declared.goal.Found.{Found}
 use Rattle.gta_witness.specs.declared.goal.Waiting.{Waiting}
 use Rattle.gta_witness.specs.declared.relax.Search.{Search}
 use Rattle.gta_witness.specs.declared.expand.Lines.{Lines}
-use Rattle.gta_witness.specs.Rules.{initial, row, column, cell, low, high, key, nothing}
+use Rattle.gta_witness.specs.Rules.{initial, row, column, cell, low, high, key, nothing, together}
+use Rattle.gta_witness.specs.Deriving.{Derives, no_goals, by_rule, IsDerived}
 use Rattle.gta_witness.specs.Searching.{same_goal, Findings, found_by, IsSettled, IsCovered, Totals, IsJustified, IsClosed, IsExpanded, Waits, IsSearch, GoesOn}
 use Rattle.gta_witness.specs.Searching.{AreListed, NoneLighter, Running, IsOver, IsAcceptingAt, IsTaken, AddsLine, AcceptsAt, IsStart}
 use Rattle.gta_witness.proofs.SearchLemmas.{same_goal-refl, same-or, settled-entry, settled-once, IsJustified-kept}
 
 some-same : (o : Option Found) (a b : Found) → o ≡ Some a → o ≡ Some b → a ≡ b
 some-same o a b one other = let e : Some a ≡ Some b = sym one ∙ other in cc
+
+-- what is justified by what comes by the rules comes by them
+totals-derive : (form : Form) (weighs : ℕ → Bool) (found : Findings) → ((g : Goal) (w : Weight) → IsSettled found g w → IsDerived form weighs g w) →
+    (goals : List Goal) (w : Weight) → Totals found goals w → Derives form weighs goals w
+totals-derive form weighs found derived [] w totals = subst (Derives form weighs []) totals no_goals
+totals-derive form weighs found derived (goal ∷ goals) w totals =
+    let d = derived goal totals.0 totals.2 in
+    let others = totals-derive form weighs found derived goals totals.1 totals.3 in
+    let sum : together (d.cost d.total) totals.1 ≡ w = ap (λ (x : Weight). together x totals.1) d.weighs_so ∙ totals.4 in
+    subst (Derives form weighs (goal ∷ goals)) sum (by_rule d.premises goals d.cost goal d.reason d.total totals.1 d.rule d.derives others)
+
+justified-derived : (form : Form) (weighs : ℕ → Bool) (found : Findings) → ((g : Goal) (w : Weight) → IsSettled found g w → IsDerived form weighs g w) →
+    (goal : Goal) (reason : Reason) (w : Weight) → IsJustified form weighs found goal reason w → IsDerived form weighs goal w
+justified-derived form weighs found derived goal reason w j = record {
+  premises = j.premises;
+  cost = j.cost;
+  reason = reason;
+  total = j.total;
+  rule = j.rule;
+  derives = totals-derive form weighs found derived j.premises j.total j.totals;
+  weighs_so = j.weighs_so;
+}
 
 -- the goal is settled
 module _ (form : Form) (weighs : ℕ → Bool) (lines : Lines) (old mid : Search) (goal : Goal) (entry : Found)
@@ -94,6 +118,11 @@ module _ (form : Form) (weighs : ℕ → Bool) (lines : Lines) (old mid : Search
             (subst (λ (x : Found). IsJustified form weighs (found_by mid) goal x.reason x.weight) is j)
         | inr apart ↦ IsJustified-kept form weighs (found_by old) (found_by mid) settled-kept g e.reason e.weight
             (taken.justified g e (sym (at-other g apart) ∙ there))
+      ];
+      derived = λ g w settled. elim (settled-back g w settled) [
+        | inl here ↦ subst (λ (x : Goal). IsDerived form weighs x w) here.0 (subst (IsDerived form weighs goal) here.1
+            (justified-derived form weighs (found_by old) taken.derived goal entry.reason entry.weight (taken.justified goal entry taken.there)))
+        | inr before ↦ taken.derived g w before
       ];
       passed = λ g w settled. elim (settled-back g w settled) [
         | inl here ↦ let e = ap key here.1 in omega arith
@@ -174,6 +203,7 @@ module _ (form : Form) (weighs : ℕ → Bool) (lines : Lines) (old mid : Search
       pub over-now : IsOver form weighs (found_by new) (Some (key entry.weight))
       over-now = record {
         justified = on_now.is_search.sound.justified;
+        derived = on_now.is_search.sound.derived;
         closed = closed-now;
         others = λ g e there unsettled.
             let waits = on_now.is_search.sound.waits g e there unsettled in
@@ -234,6 +264,8 @@ module _ (form : Form) (weighs : ℕ → Bool) (now : ℕ) (lines : Lines) (old 
       sound = record {
         justified = subst (λ (found : Findings). (g : Goal) (e : Found) → found g ≡ Some e → IsJustified form weighs found g e.reason e.weight)
             (sym same_found) is.sound.justified;
+        derived = subst (λ (found : Findings). (g : Goal) (w : Weight) → IsSettled found g w → IsDerived form weighs g w) (sym same_found)
+            is.sound.derived;
         passed = subst (λ (found : Findings). (g : Goal) (w : Weight) → IsSettled found g w → key w ≤ now) (sym same_found) is.sound.passed;
         waits = λ g e there unsettled.
             let before : found_by old g ≡ Some e = (sym (λ i. same_found i g)) ∙ there in
@@ -260,6 +292,7 @@ module _ (form : Form) (weighs : ℕ → Bool) (now : ℕ) (lines : Lines) (old 
     unsettled = unsettled;
     justified = subst (λ (found : Findings). (g : Goal) (e : Found) → found g ≡ Some e → IsJustified form weighs found g e.reason e.weight)
         (sym same_found) is.sound.justified;
+    derived = subst (λ (found : Findings). (g : Goal) (w : Weight) → IsSettled found g w → IsDerived form weighs g w) (sym same_found) is.sound.derived;
     passed = subst (λ (found : Findings). (g : Goal) (w : Weight) → IsSettled found g w → key w ≤ key entry.weight) (sym same_found)
         (λ g w settled. let p = is.sound.passed g w settled in let a = first-ahead in omega arith);
     waits = λ g e at unsettled_g apart.
@@ -280,6 +313,7 @@ pub over-none : (form : Form) (weighs : ℕ → Bool) (now : ℕ) (lines : Lines
     heap_items search.queue ≡ [] → IsOver form weighs (found_by search) None
 over-none form weighs now lines search running empty = record {
   justified = running.is_search.sound.justified;
+  derived = running.is_search.sound.derived;
   closed = running.closed;
   others = λ g e there unsettled.
       let waits = running.is_search.sound.waits g e there unsettled in

@@ -15,15 +15,15 @@ use Rattle.gta_witness.specs.declared.goal.Found.{Found}
 use Rattle.gta_witness.specs.declared.grow.Task.{Task}
 use Rattle.gta_witness.specs.declared.grow.Task.TheVariants.{Visit, Join}
 use Rattle.gta_witness.specs.Lightest.{each_once}
-use Rattle.gta_witness.specs.Rules.{together, with_node, with_bits}
+use Rattle.gta_witness.specs.Rules.{together, bits_counted, with_node, with_bits}
 use Rattle.gta_witness.specs.Searching.{Findings, IsSettled}
 
--- the tree gives the state in space 0, weighs what the state does, and has as many nodes as it counts
+-- the tree gives the state in space 0, weighs what the state does, as bits are counted, and has as many nodes as it counts
 pub record IsTreeTo (form : Form) (tracks : List Track) (found : Findings) (q : ℕ) (nodes : List TreeNode) : Type 0 where
   pub least : Weight
   pub settled : IsSettled found (State 0 q) least
   pub is_value : value (guide_of form) (automaton_of form) 0 (length nodes) (assignment_of nodes) ≡ q
-  pub weighs : weight (each_once tracks) (length nodes) (assignment_of nodes) ≡ least.bits
+  pub weighs : bits_counted (weight (each_once tracks) (length nodes) (assignment_of nodes)) ≡ least.bits
   pub counts : length nodes ≡ least.nodes
 
 -- a tree that is wanted: of a state of a space, of that weight
@@ -37,7 +37,7 @@ pub record IsBuilt (form : Form) (tracks : List Track) (nodes : List TreeNode) (
   pub inside : IfSome child (λ k. k < length nodes)
   pub is_space : IsSpace (guide_of form) want.space
   pub is_value : value (guide_of form) (automaton_of form) want.space (length nodes) (child_at nodes child) ≡ want.state
-  pub weighs : weight (each_once tracks) (length nodes) (child_at nodes child) ≡ want.weight.bits
+  pub weighs : bits_counted (weight (each_once tracks) (length nodes) (child_at nodes child)) ≡ want.weight.bits
 
 -- what was made is what is wanted
 abbrev pub AreBuilt : Form → List Track → List TreeNode → List (Option ℕ) → List Want → Type 0

@@ -20,11 +20,12 @@ use Rattle.gta_witness.specs.Lightest.{is_among, each_once}
 use Rattle.gta_witness.specs.Rules.{goal_at, nothing, together, with_node, with_bits}
 use Rattle.gta_witness.specs.Searching.{Findings, IsSettled, IsJustified}
 
--- what is found is justified, by the tracks that are weighed
+-- what is found is justified, by the tracks that are weighed, and weighs as much as is counted
 pub record IsReadable (form : Form) (tracks : List Track) (found : Findings) : Type 0 where
   pub is_form : IsForm form
   pub justified : (goal : Goal) (entry : Found) → found goal ≡ Some entry →
       IsJustified form (is_among tracks) found goal entry.reason entry.weight
+  pub counted : (goal : Goal) (w : Weight) → IsSettled found goal w → w.bits ≤ 18446744073709551615
 
 -- something is found for the goal, by that reason
 pub record HasReason (found : Findings) (goal : Goal) (reason : Reason) : Type 0 where

@@ -21,9 +21,10 @@ goal_at space (Inner index) = Node space index
 abbrev pub bit_cost : (ℕ → Bool) → ℕ → ℕ
 bit_cost weighs t = if weighs t then 1 else 0
 
--- the place of a weight in the order of weights: by its bits, and where these are the same by its nodes, fewer than 2^32
+-- the place of a weight in the order of weights: by its bits, and where these are the same by its nodes, fewer than 2^32; all
+-- from 2^64 - 1 bits on have the last place
 abbrev pub key : Weight → ℕ
-key w = w.bits * 4294967296 + w.nodes
+key w = min (w.bits * 4294967296 + w.nodes) 79228162514264337589248983040
 
 -- the weight of no tree
 abbrev pub nothing : Weight
@@ -37,13 +38,17 @@ together u v = record { bits = u.bits + v.bits; nodes = u.nodes + v.nodes }
 abbrev pub counted : ℕ → ℕ
 counted n = min n 4294967295
 
+-- so many bits as they are counted: from 2^64 - 1 on all numbers count as that
+abbrev pub bits_counted : ℕ → ℕ
+bits_counted n = min n 18446744073709551615
+
 -- the weight with a node more
 abbrev pub with_node : Weight → Weight
-with_node w = record { bits = w.bits; nodes = counted (w.nodes + 1) }
+with_node w = record { bits = bits_counted w.bits; nodes = counted (w.nodes + 1) }
 
 -- the weight with so many bits more
 abbrev pub with_bits : ℕ → Weight → Weight
-with_bits k w = record { bits = k + w.bits; nodes = w.nodes }
+with_bits k w = record { bits = bits_counted (k + w.bits); nodes = w.nodes }
 
 -- from the premises, whose weights together become another, comes a goal: an initial state from nothing; a class from a
 -- state of it; where the function of two classes begins, from these, for a node; and the sides of a node of a function

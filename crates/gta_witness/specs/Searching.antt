@@ -22,6 +22,7 @@ use Rattle.gta_witness.specs.declared.search.Turn.{Turn}
 use Rattle.gta_witness.specs.declared.search.Turn.TheVariants.{More, Over, Accepting}
 use Rattle.gta_witness.specs.contracts.goal.GoalPartialEq.TheImpl as goal_eq
 use Rattle.gta_witness.specs.Rules.{Rule, key, nothing, together}
+use Rattle.gta_witness.specs.Deriving.{IsDerived}
 
 abbrev pub same_goal : Goal → Goal → Bool
 same_goal = (goal_eq.ghosts).eq
@@ -95,10 +96,11 @@ pub record Waits (queue : List Waiting) (goal : Goal) (w : Weight) : Type 0 wher
   pub is_goal : waiting.goal ≡ goal
   pub near : waiting.nearness + key w ≡ 340282366920938463463374607431768211455
 
--- what is found is justified; what is settled weighs no more than the weight that the search has come to, and what
--- waits no less; and what isn't settled waits
+-- what is found is justified; what is settled comes by the rules, and weighs no more than the weight that the search has
+-- come to, and what waits no less; and what isn't settled waits
 pub record IsSound (form : Form) (weighs : ℕ → Bool) (now : ℕ) (found : Findings) (queue : List Waiting) : Type 0 where
   pub justified : (goal : Goal) (entry : Found) → found goal ≡ Some entry → IsJustified form weighs found goal entry.reason entry.weight
+  pub derived : (goal : Goal) (w : Weight) → IsSettled found goal w → IsDerived form weighs goal w
   pub passed : (goal : Goal) (w : Weight) → IsSettled found goal w → key w ≤ now
   pub waits : (goal : Goal) (entry : Found) → found goal ≡ Some entry → entry.is_settled ≡ false → Waits queue goal entry.weight
   pub ahead : (waiting : Waiting) → Contains queue waiting → now + waiting.nearness ≤ 340282366920938463463374607431768211455
@@ -140,10 +142,11 @@ pub record Running (form : Form) (weighs : ℕ → Bool) (now : ℕ) (lines : Li
   pub listed : AreListed (found_by search) lines.rows.items lines.columns.items
   pub none : NoneLighter form (found_by search) None
 
--- the search has ended, with a bound: all rules are followed, what isn't settled weighs no less than the bound, and no
--- accepting state weighs less; without a bound all is settled, and nothing accepting
+-- the search has ended, with a bound: all rules are followed, what is settled comes by them, what isn't weighs no less than
+-- the bound, and no accepting state weighs less; without a bound all is settled, and nothing accepting
 pub record IsOver (form : Form) (weighs : ℕ → Bool) (found : Findings) (bound : Option ℕ) : Type 0 where
   pub justified : (goal : Goal) (entry : Found) → found goal ≡ Some entry → IsJustified form weighs found goal entry.reason entry.weight
+  pub derived : (goal : Goal) (w : Weight) → IsSettled found goal w → IsDerived form weighs goal w
   pub closed : IsClosed form weighs found
   pub others : (goal : Goal) (entry : Found) → found goal ≡ Some entry → entry.is_settled ≡ false →
       MatchOption bound ⊥ (λ b. b ≤ key entry.weight)
@@ -178,6 +181,7 @@ pub record IsTaken (form : Form) (weighs : ℕ → Bool) (lines : Lines) (search
   pub there : found_by search goal ≡ Some entry
   pub unsettled : entry.is_settled ≡ false
   pub justified : (g : Goal) (e : Found) → found_by search g ≡ Some e → IsJustified form weighs (found_by search) g e.reason e.weight
+  pub derived : (g : Goal) (w : Weight) → IsSettled (found_by search) g w → IsDerived form weighs g w
   pub passed : (g : Goal) (w : Weight) → IsSettled (found_by search) g w → key w ≤ key entry.weight
   pub waits : (g : Goal) (e : Found) → found_by search g ≡ Some e → e.is_settled ≡ false → same_goal goal g ≡ false →
       Waits (heap_items search.queue) g e.weight

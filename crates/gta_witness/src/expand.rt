@@ -146,7 +146,7 @@ fn expand_cell(
         return Ok(());
     };
     let goal = goal_of(space, *listed);
-    let sum = left.under_node(right)?;
+    let sum = left.under_node(right);
     relax(search, goal, sum, Reason::Cell { row, column })?;
     Ok(())
 }
@@ -224,7 +224,7 @@ fn expand_node(
     let node = *node;
     let low = goal_of(space, node.low);
     let high = goal_of(space, node.high);
-    let more = weight.with_bits(cost(weighed, node.track))?;
+    let more = weight.with_bits(cost(weighed, node.track));
     relax(
         search,
         low,

@@ -3,12 +3,12 @@
 ghost use Rattle.std.specs.Ordering.{nat_cmp, on, as_partial_cmp};
 ghost use Rattle.std.specs.Cmp.{partial_order_from_own_ties};
 ghost use Rattle.std.specs.Cmp.Rules.{comparing};
-ghost use Rattle.std.specs.Prelude.{◌≡◌, ◌≤◌, IfOk, nat_eq};
+ghost use Rattle.std.specs.Prelude.{◌≡◌, ◌≤◌, ◌↔◌, IsTrue, nat_eq};
 ghost use Rattle.std.proofs.Common.{rules, refl};
+ghost use Rattle.gta_witness.specs.Lightest.{HasRoom};
 ghost use Rattle.gta_witness.specs.Rules.{goal_at, key, with_bits, with_node, together};
 
 use bdd_list::Listed;
-use std::alloc::AllocError;
 use std::cmp::Ordering;
 
 /// What has a least weight.
@@ -24,51 +24,55 @@ pub(crate) enum Goal {
     Column { space: u32, class: u32 },
 }
 
-/// What a tree weighs: its bits, and where these are the same its nodes.
+/// What a tree weighs: its bits, and where these are the same its nodes. The greatest number of either stands for all from there
+/// on, since a tree that large has no room.
 #[derive(Clone, Copy, Debug)]
 pub(crate) struct Weight {
     pub bits: u64,
-    /// The greatest number stands for all from there on, since no tree has room for as many nodes.
     pub nodes: u32,
 }
 
 impl Weight {
-    /// Its place in the order of weights.
+    /// Its place in the order of weights. The last place is that of all with the greatest number of bits.
     #[inline]
     pub(crate) fn key(self) -> u128
         ensures { result ≡ key self }
     {
-        self.bits as u128 * 4_294_967_296 + self.nodes as u128
+        const LAST: u128 = u64::MAX as u128 * 4_294_967_296;
+        let place = self.bits as u128 * 4_294_967_296 + self.nodes as u128;
+        if place < LAST { place } else { LAST }
     }
 
     /// The weight with more bits.
     #[inline]
-    pub(crate) fn with_bits(self, bits: u64) -> Result<Weight, AllocError>
-        ensures { IfOk result (λ sum. sum ≡ with_bits bits self) }
+    pub(crate) fn with_bits(self, bits: u64) -> Weight
+        ensures { result ≡ with_bits bits self }
     {
-        if bits > u64::MAX - self.bits {
-            return Err(AllocError);
-        }
-        Ok(Weight {
-            bits: bits + self.bits,
+        Weight {
+            bits: bits.saturating_add(self.bits),
             nodes: self.nodes,
-        })
+        }
     }
 
     /// The weight of two trees under a node.
     #[inline]
-    pub(crate) fn under_node(self, other: Weight) -> Result<Weight, AllocError>
-        ensures value { IfOk result (λ sum. sum ≡ with_node (together self other)) }
-        ensures no_less { IfOk result (λ sum. key self ≤ key sum) }
-        ensures no_less_other { IfOk result (λ sum. key other ≤ key sum) }
+    pub(crate) fn under_node(self, other: Weight) -> Weight
+        ensures value { result ≡ with_node (together self other) }
+        ensures no_less { key self ≤ key result }
+        ensures no_less_other { key other ≤ key result }
     {
-        if self.bits > u64::MAX - other.bits {
-            return Err(AllocError);
-        }
-        Ok(Weight {
-            bits: self.bits + other.bits,
+        Weight {
+            bits: self.bits.saturating_add(other.bits),
             nodes: self.nodes.saturating_add(other.nodes).saturating_add(1),
-        })
+        }
+    }
+
+    /// Whether both numbers are those of a tree, and stand for no greater ones.
+    #[inline]
+    pub(crate) fn has_room(self) -> bool
+        ensures { IsTrue result ↔ HasRoom self.bits self.nodes }
+    {
+        self.bits < u64::MAX && self.nodes < u32::MAX
     }
 }
 

@@ -1,6 +1,6 @@
 //! The tree of a state: children are made before their parents, by a stack, so that no call goes deep.
 
-ghost use Rattle.std.specs.Prelude.{◌≡◌, ◌<◌, ◌∷◌, List, IfOk, None};
+ghost use Rattle.std.specs.Prelude.{◌≡◌, ◌<◌, ◌∷◌, List, length, IfOk, None};
 ghost use Rattle.ws2s_core.specs.declared.label_tree.TreeNode.{TreeNode};
 ghost use Rattle.gta_witness.specs.declared.goal.Goal.TheVariants.{State};
 ghost use Rattle.gta_witness.specs.declared.goal.Weight.{Weight};
@@ -48,7 +48,7 @@ fn visit(
         }
         Some(step) => {
             let Some(part) = form.spaces.get(space as usize) else {
-                return Err(AllocError);
+                unreachable!()
             };
             let (left, right) = part.children;
             tasks.push(Task::Join {
@@ -76,16 +76,14 @@ fn join(
     made: &mut Stack<Option<u32>>,
     tracks: TrackList,
 ) -> Result<(), AllocError>
-    requires { IsReadable form.now weigh.now (found_by search.now) }
+    requires readable { IsReadable form.now weigh.now (found_by search.now) }
+    requires few { length nodes.old < 4294967294 }
     ensures { (tasks : List Task) (out : Want) → Grows form.now weigh.now (found_by search.now) nodes.old (Task.Join tracks ∷ tasks) made.old out
         → IfOk result (λ done. Grows form.now weigh.now (found_by search.now) nodes.new tasks made.new out) }
 {
     let right = made.take_or(None);
     let left = made.take_or(None);
     let place = nodes.len();
-    if place >= u32::MAX as usize - 1 {
-        return Err(AllocError);
-    }
     nodes.push(TreeNode {
         tracks,
         left,

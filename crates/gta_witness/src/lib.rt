@@ -14,4 +14,4 @@ mod read;
 mod relax;
 mod search;
 
-pub use lightest::least;
+pub use lightest::{Lightest, least};

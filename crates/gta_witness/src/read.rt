@@ -1,6 +1,7 @@
 //! By which step a state has its weight.
 
-ghost use Rattle.std.specs.Prelude.{◌≡◌, ℕ, Some, IfOk};
+ghost use Rattle.std.specs.Prelude.{◌≡◌, ◌<◌, ℕ, Some, IfOk, length, slice_get};
+ghost use Rattle.gta_reach.specs.declared.form.FormSpace.{FormSpace};
 ghost use Rattle.gta_witness.specs.declared.goal.Goal.TheVariants.{State};
 ghost use Rattle.gta_witness.specs.declared.goal.Weight.{Weight};
 ghost use Rattle.gta_witness.specs.declared.goal.Reason.TheVariants.{Member};
@@ -22,27 +23,29 @@ pub(crate) struct Step {
     pub right: u32,
 }
 
-/// By what the goal has its weight.
-fn reason_of(search: &Search, goal: Goal) -> Result<Reason, AllocError>
-    ensures { IfOk result (HasReason (found_by search.now) goal) }
+/// By what a settled goal has its weight.
+fn reason_of(search: &Search, goal: Goal) -> Reason
+    requires { (w : Weight) × IsSettled (found_by search.now) goal w }
+    ensures { HasReason (found_by search.now) goal result }
 {
     let Some(found) = search.at(goal) else {
-        return Err(AllocError);
+        unreachable!()
     };
-    Ok(found.reason)
+    found.reason
 }
 
 /// The state by which a class has its weight.
-fn member_of(search: &Search, goal: Goal) -> Result<u32, AllocError>
-    ensures { IfOk result (λ state. HasReason (found_by search.now) goal (Member state)) }
+fn member_of(search: &Search, goal: Goal) -> u32
+    requires { (state : ℕ) × HasReason (found_by search.now) goal (Member state) }
+    ensures { HasReason (found_by search.now) goal (Member result) }
 {
     let Some(found) = search.at(goal) else {
-        return Err(AllocError);
+        unreachable!()
     };
     let Reason::Member { state } = found.reason else {
-        return Err(AllocError);
+        unreachable!()
     };
-    Ok(state)
+    state
 }
 
 /// Adds the track of a node, if its high side was taken.
@@ -53,16 +56,17 @@ fn add_track(
     index: u32,
     is_high: bool,
 ) -> Result<(), AllocError>
+    requires { (part : FormSpace) × (slice_get form.now.spaces space ≡ Some part) × (index < length part.listing.nodes) }
     ensures { IfOk result (λ done. AddsTrack form.now tracks.old tracks.new space index is_high) }
 {
     if !is_high {
         return Ok(());
     }
     let Some(part) = form.spaces.get(space as usize) else {
-        return Err(AllocError);
+        unreachable!()
     };
     let Some(node) = part.listing.nodes.get(index as usize) else {
-        return Err(AllocError);
+        unreachable!()
     };
     tracks.push(Track(node.track))?;
     Ok(())
@@ -84,22 +88,22 @@ pub(crate) fn step_of(
     let mut tracks = Items::new(alloc);
     let mut goal = Goal::State { space, state };
     loop {
-        match reason_of(search, goal)? {
+        match reason_of(search, goal) {
             Reason::Initial => return Ok(None),
-            Reason::Member { .. } => return Err(AllocError),
+            Reason::Member { .. } => unreachable!(),
             Reason::Side { index, is_high } => {
                 add_track(form, &mut tracks, space, index, is_high)?;
                 goal = Goal::Node { space, index };
             }
             Reason::Cell { row, column } => {
-                let left = member_of(search, Goal::Row { space, class: row })?;
+                let left = member_of(search, Goal::Row { space, class: row });
                 let right = member_of(
                     search,
                     Goal::Column {
                         space,
                         class: column,
                     },
-                )?;
+                );
                 return Ok(Some(Step {
                     tracks,
                     left,

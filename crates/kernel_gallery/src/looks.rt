@@ -10,11 +10,11 @@ use bdd_nodes::Shelf;
 use bdd_walk::NoMemory;
 use gta_core::Auto;
 use gta_merge::is_told_apart;
-use gta_witness::least;
+use gta_witness::{Lightest, least};
 use plain_data::Items;
 use plain_writer::Writer;
 use std::alloc::{AllocError, Global};
-use ws2s_core::{Guide, LabelTree, Track, TrackList};
+use ws2s_core::{Guide, Track, TrackList};
 
 /// Writes the number of states of each space, in order.
 fn write_states(g: &Guide, a: &Auto, out: &mut Writer) {
@@ -80,14 +80,15 @@ fn tracks_of(alloc: Global, word: &str) -> Result<TrackList, AllocError> {
     Ok(tracks)
 }
 
-/// Writes the weight of a tree and how many nodes it has, or that there is none.
-fn write_tree(found: &Option<(LabelTree, u64)>, out: &mut Writer) {
+/// Writes the weight of a tree and how many nodes it has, that there is none, or that it is too large.
+fn write_tree(found: &Lightest, out: &mut Writer) {
     match found {
-        Some((tree, weight)) => {
+        Lightest::Tree(tree, weight) => {
             write_number(out, b" ", *weight);
             write_number(out, b"/", tree.nodes().len() as u64);
         }
-        None => out.push_all(b" none"),
+        Lightest::None => out.push_all(b" none"),
+        Lightest::TooLarge => out.push_all(b" too large"),
     }
 }
 

@@ -13,7 +13,7 @@ use Rattle.ws2s_answer.specs.declared.answer.Answer.TheVariants as answer
 use Rattle.ws2s_answer.specs.Answering.{IsAnswer, IsExample}
 use Rattle.ws2s_example.specs.Examples.{HaveOnePosition, IsExampleText}
 use Rattle.pale_modes.specs.declared.status.Status.TheVariants.{Good, Limit}
-use Rattle.pale_modes.specs.Deciding.{HasSmallFormulas, Says, unsatisfiable, valid, satisfiable, above, status_of}
+use Rattle.pale_modes.specs.Deciding.{HasSmallFormulas, Says, unsatisfiable, valid, satisfiable, too_large, above, status_of}
 
 some : {X : Type 0} {x y : X} → Some x ≡ Some y → x ≡ y
 some e = cc
@@ -57,6 +57,9 @@ module _ (limit : ℕ) (text : Text) (given : Answer) (is_true : IsAnswer limit 
 
   pub says_valid : given ≡ answer.Valid → (line : List ℕ) → line ≡ codes "valid\n" → Says limit text line (status_of given)
   says_valid same line is = says answer.Valid same line (λ holds. subst (λ l. Says limit text l Good) (sym is) (valid small holds))
+
+  pub says_too_large : given ≡ answer.TooLarge → (line : List ℕ) → line ≡ codes "satisfiable\nexample too large\n" → Says limit text line (status_of given)
+  says_too_large same line is = says answer.TooLarge same line (λ holds. subst (λ l. Says limit text l Good) (sym is) (too_large small holds))
 
   pub says_above : given ≡ answer.Limit → (line : List ℕ) → line ≡ codes "limit\n" → Says limit text line (status_of given)
   says_above same line is = says answer.Limit same line (λ holds. subst (λ l. Says limit text l Limit) (sym is) (above small holds))

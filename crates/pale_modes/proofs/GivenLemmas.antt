@@ -43,6 +43,7 @@ said_given limit tree output status (deciding.big big) = tt
 said_given limit tree output status (deciding.unsatisfiable small answer) = tt
 said_given limit tree output status (deciding.valid small answer) = tt
 said_given limit tree output status (deciding.satisfiable nodes lines small answer example) = tt
+said_given limit tree output status (deciding.too_large small answer) = tt
 said_given limit tree output status (deciding.above small answer) = tt
 
 pub decided_given : (limit : ℕ) (text output : List ℕ) (status : Status) → Decides limit text output status → IsGiven status

@@ -29,16 +29,18 @@ abbrev pub status_of : Answer → Status
 status_of answer.Unsatisfiable = Good
 status_of answer.Valid = Good
 status_of (answer.Example nodes) = Good
+status_of answer.TooLarge = Good
 status_of answer.Limit = Limit
 
 -- what is written for the tree of a text, and the status: it has a formula that is too big; or it is unsatisfiable, valid, or
--- satisfiable with an example; or its Peak is above the limit
+-- satisfiable with an example, or with examples that are too large; or its Peak is above the limit
 pub data Says (limit : ℕ) (tree : checked.Text) : List ℕ → Status → Type 0 where
   big : (HasSmallFormulas tree → ⊥) → Says limit tree big_line Text
   unsatisfiable : HasSmallFormulas tree → IsAnswer limit tree answer.Unsatisfiable → Says limit tree (codes "unsatisfiable\n") Good
   valid : HasSmallFormulas tree → IsAnswer limit tree answer.Valid → Says limit tree (codes "valid\n") Good
   satisfiable : (nodes : List TreeNode) (lines : List ℕ) → HasSmallFormulas tree → IsAnswer limit tree (answer.Example nodes)
       → IsExampleText tree.free (assignment_of nodes) lines → Says limit tree (codes "satisfiable\n" ++ lines) Good
+  too_large : HasSmallFormulas tree → IsAnswer limit tree answer.TooLarge → Says limit tree (codes "satisfiable\nexample too large\n") Good
   above : HasSmallFormulas tree → IsAnswer limit tree answer.Limit → Says limit tree (codes "limit\n") Limit
 
 -- what is written for a text, and the status: the text has too many bytes, is no text, or is one

@@ -21,7 +21,7 @@ use ws2s_read::read_ws2s;
 use ws2s_reduce::ReduceFault;
 use ws2s_syntax::Ws2sText;
 
-/// The line for an answer without an example.
+/// What is written for an answer without an example.
 fn line(alloc: Global, bytes: &[u8]) -> Result<Vec<u8>, AllocError>
     ensures { IfOk result (λ text. text.items ≡ bytes.now) }
 {
@@ -59,6 +59,7 @@ fn report_of(
     match answer {
         Answer::Unsatisfiable => line(alloc, b"unsatisfiable\n"),
         Answer::Valid => line(alloc, b"valid\n"),
+        Answer::TooLarge => line(alloc, b"satisfiable\nexample too large\n"),
         Answer::Limit => line(alloc, b"limit\n"),
         Answer::Example(example) => example_report(alloc, text, example),
     }
@@ -68,7 +69,8 @@ fn status_of(answer: &Answer) -> Status
     ensures { result ≡ status_of answer.now }
 {
     match answer {
-        Answer::Unsatisfiable | Answer::Valid | Answer::Example(_) => Status::Good,
+        Answer::Unsatisfiable | Answer::Valid | Answer::Example(_) | Answer::TooLarge =>
+            Status::Good,
         Answer::Limit => Status::Limit,
     }
 }

@@ -34,6 +34,7 @@ module _ (formulas : ℕ → Option Formula) (tracks : List Track) where
   verdict-of site f verdict.None there none =
       λ g at. subst (λ (h : Formula). IsVerdict tracks h verdict.None) (same_Some f g (sym there ∙ at)) none
   verdict-of site f (verdict.Witness nodes w) there model = record { formula = f; there = there; model = model }
+  verdict-of site f verdict.TooLarge there any = tt
   verdict-of site f verdict.Limit there any = tt
 
   -- a tree of its own site is no lighter
@@ -64,6 +65,7 @@ module _ (formulas : ℕ → Option Formula) (tracks : List Track) where
     ];
     first = before.first;
   }
+  nothing-more n searched.TooLarge before none = tt
   nothing-more n searched.Limit before none = tt
 
   -- a tree of the next site, where there was none
@@ -122,6 +124,7 @@ module _ (formulas : ℕ → Option Formula) (tracks : List Track) where
         least = λ site f depth a below at covers sat. omega (arith, zero_weight);
         first = before.first;
       }
+  settled n m searched.TooLarge before e enough = tt
   settled n m searched.Limit before e enough = tt
 
 -- ---- the loop

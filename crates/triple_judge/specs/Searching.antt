@@ -30,6 +30,7 @@ pub record IsLightestOf (formulas : ℕ → Option Formula) (tracks : List Track
 abbrev pub IsVerdictAt : (ℕ → Option Formula) → List Track → ℕ → Verdict → Type 0
 IsVerdictAt formulas tracks site verdict.None = IsNowhere formulas site
 IsVerdictAt formulas tracks site (verdict.Witness nodes w) = IsLightestOf formulas tracks (record { site = site; tree = nodes; weight = w })
+IsVerdictAt formulas tracks site verdict.TooLarge = Unit {0}
 IsVerdictAt formulas tracks site verdict.Limit = Unit {0}
 
 -- ---- the sites before a number
@@ -44,14 +45,16 @@ pub record IsLightest (formulas : ℕ → Option Formula) (tracks : List Track) 
   pub first : (site : ℕ) (f : Formula) (depth : ℕ) (a : Assignment) → site < found.site → formulas site ≡ Some f → Covers depth a → WSat f a →
       found.weight < weight (each_once tracks) depth a
 
--- what is known of the sites before n; a limit says nothing of them
+-- what is known of the sites before n; a limit, and trees that are too large, say nothing of them
 abbrev pub IsSearched : (ℕ → Option Formula) → List Track → ℕ → Searched → Type 0
 IsSearched formulas tracks n searched.Nothing = (site : ℕ) → site < n → IsNowhere formulas site
 IsSearched formulas tracks n (searched.Lightest found) = IsLightest formulas tracks n found
+IsSearched formulas tracks n searched.TooLarge = Unit {0}
 IsSearched formulas tracks n searched.Limit = Unit {0}
 
 -- no later site changes it: no tree is lighter than one without weight
 abbrev pub is_settled : Searched → Bool
 is_settled searched.Nothing = false
 is_settled (searched.Lightest found) = found.weight == 0
+is_settled searched.TooLarge = true
 is_settled searched.Limit = true

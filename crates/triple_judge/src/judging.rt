@@ -93,6 +93,8 @@ fn judge_laid_out(
             let (store, place) = failure_of(alloc, l, t, &found)?;
             Ok(Judged::Invalid(store, place.cause, place.line))
         }
+        // No store has room for so many cells.
+        Searched::TooLarge => Err(AllocError),
         Searched::Limit => Ok(Judged::Limit),
     }
 }
@@ -107,8 +109,8 @@ fn judge_laid_out(
 ///
 /// # Errors
 ///
-/// Want of memory; also where a weight on the way, the tracks, the spaces, the sites or a tree's number of nodes have no room in
-/// their integers.
+/// Want of memory; also where the tracks, the spaces or the sites have no room in their integers, and where stores fail at a site, but
+/// each tree of a least one has 2^32 - 1 nodes or more.
 pub fn judge(
     alloc: Global,
     types: &TypeTable,

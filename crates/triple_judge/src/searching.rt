@@ -42,6 +42,8 @@ pub(crate) enum Searched {
     Nothing,
     /// The lightest tree, of the first site that has one as light.
     Lightest(Found),
+    /// The lightest trees of one of them are too large.
+    TooLarge,
     /// The shelf has too little room for one of them.
     Limit,
 }
@@ -67,6 +69,7 @@ fn with_tree(searched: Searched, found: Found) -> Searched
     match searched {
         Searched::Nothing => Searched::Lightest(found),
         Searched::Lightest(best) => Searched::Lightest(lighter(best, found)),
+        Searched::TooLarge => Searched::TooLarge,
         Searched::Limit => Searched::Limit,
     }
 }
@@ -80,18 +83,19 @@ fn with_verdict(searched: Searched, site: u32, verdict: Verdict) -> Searched
     match verdict {
         Verdict::None => searched,
         Verdict::Witness(tree, weight) => with_tree(searched, Found { site, tree, weight }),
+        Verdict::TooLarge => Searched::TooLarge,
         Verdict::Limit => Searched::Limit,
     }
 }
 
-/// No later site changes what is known: no tree is lighter than one without weight.
+/// No later site is looked at: no tree is lighter than one without weight, and without room for one nothing is said.
 fn is_settled(searched: &Searched) -> bool
     ensures { result ≡ known.is_settled searched.now }
 {
     match searched {
         Searched::Nothing => false,
         Searched::Lightest(found) => found.weight == 0,
-        Searched::Limit => true,
+        Searched::TooLarge | Searched::Limit => true,
     }
 }
 

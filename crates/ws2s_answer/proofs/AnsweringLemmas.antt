@@ -1,19 +1,21 @@
 -- From verdicts on a text's two formulas to the answer.
 use Rattle.std.proofs.Common.{◌≡◌, ℕ, zero, suc, ◌<◌, ◌||◌, false, cond, List, ◌∷◌, length}
-use Rattle.std.proofs.Common.{refl, sym, ap, ◌∙◌, arith, ne_eqb}
+use Rattle.std.proofs.Common.{refl, sym, ap, subst, ◌∙◌, arith, ne_eqb}
+use Rattle.gta_theory.specs.Assignments.{Assignment, Covers}
 use Rattle.gta_theory.specs.Weights.{weight}
-use Rattle.gta_witness.specs.Lightest.{each_once, is_among}
+use Rattle.gta_witness.specs.Lightest.{each_once, is_among, AreTooLarge}
+use Rattle.gta_witness.proofs.LargeLemmas.{AreTooLarge-for}
 use Rattle.ws2s_core.specs.declared.formula.Formula.{Formula}
 use Rattle.ws2s_core.specs.declared.track.Track.{Track}
 use Rattle.ws2s_core.specs.declared.label_tree.TreeNode.{TreeNode}
 use Rattle.ws2s_core.specs.LabelTrees.{assignment_of}
-use Rattle.ws2s_core.proofs.LabelTreesLemmas.{Covers-tree}
+use Rattle.ws2s_core.specs.Satisfaction.{WSat}
 use Rattle.ws2s_theory.specs.Peaks.{HasPeak}
 use Rattle.ws2s_syntax.specs.Checked.{Text}
 use Rattle.ws2s_reduce.specs.Answer.{MeansText, MeansBroken, free_from}
 use Rattle.ws2s_reduce.specs.Reducing.{holds_of, breaks_of}
 use Rattle.ws2s_decide.specs.Deciding as deciding
-use Rattle.ws2s_answer.specs.Answering.{numbers_from, total_size, IsUnsatisfiable, IsValid, IsLeastModel, IsPeakAbove, plain}
+use Rattle.ws2s_answer.specs.Answering.{numbers_from, total_size, IsModel, IsUnsatisfiable, IsValid, IsLeastModel, IsPeakAbove, plain}
 
 pub unsatisfiable : (text : Text) (f : Formula) → MeansText text f → deciding.IsUnsatisfiable f → IsUnsatisfiable text
 unsatisfiable text f means none n a covers model = none n a covers ((means a).1 (model.free, model.gives, model.satisfies))
@@ -47,11 +49,21 @@ least_model text f tracks nodes w means free lightest =
           omega (arith, less, size, weighs);
     }
 
-pub not_valid : (text : Text) (f : Formula) (tracks : List Track) (nodes : List TreeNode) (w : ℕ) → MeansBroken text f →
-    deciding.IsLightestModel tracks f nodes w → IsValid text → ⊥
-not_valid text f tracks nodes w means lightest is_valid =
-    let broken = (means (assignment_of nodes)).0 lightest.satisfies in
-    is_valid (length nodes) (assignment_of nodes) broken.0 (Covers-tree nodes) broken.1 broken.2
+-- the models of a text whose lightest trees are too large
+pub large_models : (text : Text) (f : Formula) (tracks : List Track) → MeansText text f → tracks ≡ free_from 0 (length text.free) →
+    AreTooLarge (WSat f) (each_once tracks) → AreTooLarge (IsModel text) (numbers_from 0 (length text.free))
+large_models text f tracks means free large =
+    let counted : each_once tracks ≡ numbers_from 0 (length text.free) = ap each_once free ∙ each_once-free 0 (length text.free) in
+    subst (AreTooLarge (IsModel text)) counted
+    (AreTooLarge-for (WSat f) (IsModel text) (each_once tracks)
+    (λ n a covers sat. let model = (means a).0 sat in record { free = model.0; gives = model.1; satisfies = model.2 })
+    (λ n a covers model. (means a).1 (model.free, model.gives, model.satisfies)) large)
+
+-- what breaks a text shows that it isn't valid
+pub not_valid : (text : Text) (f : Formula) (n : ℕ) (a : Assignment) → MeansBroken text f → Covers n a → WSat f a → IsValid text → ⊥
+not_valid text f n a means covers sat is_valid =
+    let broken = (means a).0 sat in
+    is_valid n a broken.0 covers broken.1 broken.2
 
 pub above_holds : (limit : ℕ) (text : Text) → ((p : ℕ) → HasPeak plain (holds_of text) p → limit < p) → IsPeakAbove limit text
 above_holds limit text above p q holds breaks = omega (arith, above p holds)

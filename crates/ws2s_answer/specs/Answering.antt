@@ -4,6 +4,7 @@ use Rattle.std.specs.Prelude.{ℕ, zero, suc, ◌<◌, ◌≤◌, max, List, [],
 use Rattle.gta_theory.specs.Assignments.{Assignment, Covers}
 use Rattle.gta_theory.specs.Guides.{Spaces}
 use Rattle.gta_theory.specs.Weights.{weight}
+use Rattle.gta_witness.specs.Lightest.{AreTooLarge}
 use Rattle.ws2s_core.specs.declared.label_tree.TreeNode.{TreeNode}
 use Rattle.ws2s_core.specs.LabelTrees.{assignment_of}
 use Rattle.ws2s_theory.specs.Peaks.{HasPeak}
@@ -45,6 +46,11 @@ pub record IsExample (text : Text) (nodes : List TreeNode) : Type 0 where
   pub least : IsLeastModel text nodes
   pub not_valid : IsValid text → ⊥
 
+-- the text isn't valid, but some assignment is a model, and no tree of one of smallest total size has room
+pub record IsTooLarge (text : Text) : Type 0 where
+  pub large : AreTooLarge (IsModel text) (numbers_from 0 (length text.free))
+  pub not_valid : IsValid text → ⊥
+
 -- the guide with one space
 abbrev pub plain : Spaces
 plain = (0, 0) ∷ []
@@ -58,4 +64,5 @@ abbrev pub IsAnswer : ℕ → Text → Answer → Type 0
 IsAnswer limit text Answer.Unsatisfiable = IsUnsatisfiable text
 IsAnswer limit text Answer.Valid = IsValid text
 IsAnswer limit text (Answer.Example nodes) = IsExample text nodes
+IsAnswer limit text Answer.TooLarge = IsTooLarge text
 IsAnswer limit text Answer.Limit = IsPeakAbove limit text

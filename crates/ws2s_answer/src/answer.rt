@@ -6,7 +6,7 @@ ghost use Rattle.ws2s_decide.specs.Deciding.{guide_of, HasKept};
 ghost use Rattle.ws2s_reduce.specs.Answer.{IsReduced, MeansText, MeansBroken};
 ghost use Rattle.ws2s_reduce.specs.Reducing.{holds_of, breaks_of};
 ghost use Rattle.ws2s_reduce.specs.Sizes.{IsSmall};
-ghost use Rattle.ws2s_answer.specs.Answering.{IsAnswer, IsLeastModel, plain};
+ghost use Rattle.ws2s_answer.specs.Answering.{IsAnswer, IsValid, plain};
 
 use bdd_nodes::Shelf;
 use std::alloc::{AllocError, Global};
@@ -24,20 +24,23 @@ pub enum Answer {
     Valid,
     /// Neither: this tree satisfies it, and none of smaller total size does. A free variable's track is its number.
     Example(LabelTree),
+    /// Neither, but each tree of smallest total size that satisfies it has 2^64 - 1 positions or more, all in all, or 2^32 - 1 nodes
+    /// or more.
+    TooLarge,
     /// The greater of the Peaks of its two formulas under the plain guide exceeds the limit.
     Limit,
 }
 
-/// The answer where the example is a least model of the text.
-fn answer_with(
+/// The answer to a text that is valid, if nothing breaks it, and what is handed in otherwise.
+fn unless_valid(
     alloc: Global,
     text: &Ws2sText,
-    example: LabelTree,
+    otherwise: Answer,
     breaks: &Formula,
     decider: &mut Decider,
     shelf: &mut Shelf,
 ) -> Result<Answer, AllocError>
-    requires least { IsLeastModel text.now example }
+    requires otherwise { (IsValid text.now → ⊥) → IsAnswer (limit_of shelf.old) text.now otherwise }
     requires means { MeansBroken text.now breaks.now }
     requires breaks { breaks.now ≡ breaks_of text.now }
     requires kept { HasKept shelf.old decider.old }
@@ -48,7 +51,7 @@ fn answer_with(
     let none = TrackList::new(alloc);
     match decider.decide(alloc, breaks, &none, shelf)? {
         Verdict::None => Ok(Answer::Valid),
-        Verdict::Witness(_, _) => Ok(Answer::Example(example)),
+        Verdict::Witness(_, _) | Verdict::TooLarge => Ok(otherwise),
         Verdict::Limit => Ok(Answer::Limit),
     }
 }
@@ -71,8 +74,19 @@ fn answer_by(
 {
     match decider.decide(alloc, &reduced.holds, &reduced.free, shelf)? {
         Verdict::None => Ok(Answer::Unsatisfiable),
-        Verdict::Witness(example, _) => {
-            answer_with(alloc, text, example, &reduced.breaks, decider, shelf)
+        Verdict::Witness(tree, _) => {
+            let example = Answer::Example(tree);
+            unless_valid(alloc, text, example, &reduced.breaks, decider, shelf)
+        }
+        Verdict::TooLarge => {
+            unless_valid(
+                alloc,
+                text,
+                Answer::TooLarge,
+                &reduced.breaks,
+                decider,
+                shelf,
+            )
         }
         Verdict::Limit => Ok(Answer::Limit),
     }

@@ -12,11 +12,13 @@ use Rattle.ws2s_core.specs.declared.track.Track.{Track}
 use Rattle.ws2s_core.specs.LabelTrees.{assignment_of}
 use Rattle.ws2s_core.specs.Nodes.{Extends}
 use Rattle.gta_witness.specs.Lightest.{is_among, each_once}
-use Rattle.ws2s_core.specs.Satisfaction.{Same}
+use Rattle.gta_witness.proofs.LargeLemmas.{AreTooLarge-for}
+use Rattle.ws2s_core.specs.Satisfaction.{WSat, Same}
 use Rattle.ws2s_context.specs.Opening.{AreOf, IsOpened}
 use Rattle.ws2s_core.proofs.LabelTreesLemmas.{Covers-tree}
 use Rattle.ws2s_decide.specs.declared.verdict.Verdict.{Verdict}
 use Rattle.ws2s_decide.specs.Deciding.{IsVerdict}
+use Rattle.ws2s_decide.specs.Telling.{TellsOf}
 use Rattle.ws2s_decide.specs.Going.{Rests}
 use Rattle.ws2s_decide.proofs.RestsLemmas.{AllKept-extends}
 use Rattle.std.proofs.Common.{length}
@@ -28,8 +30,11 @@ IsVerdict-same tracks f g Verdict.None same none =
 IsVerdict-same tracks f g (Verdict.Witness nodes w) same model = record {
   satisfies = (same.satisfied (assignment_of nodes) (Covers-finite (length nodes) (assignment_of nodes) (Covers-tree nodes))).1 model.satisfies;
   weighs = model.weighs;
+  room = model.room;
   least = λ n a covers sat. model.least n a covers ((same.satisfied a (Covers-finite n a covers)).0 sat);
 }
+IsVerdict-same tracks f g Verdict.TooLarge same large = AreTooLarge-for (WSat g) (WSat f) (each_once tracks)
+    (λ n a covers. (same.satisfied a (Covers-finite n a covers)).1) (λ n a covers. (same.satisfied a (Covers-finite n a covers)).0) large
 IsVerdict-same tracks f g Verdict.Limit same any = tt
 
 -- the tracks of a list, each once, are of the list
@@ -50,23 +55,30 @@ each_once-of [] t (k, below, e) = absurd (no-below k below)
 each_once-of (track ∷ tracks) t there =
     each_once-step track tracks t (each_once-of tracks t) (is_among tracks track.0) there
 
--- a verdict on a formula with quantifiers opened is one on the formula
-pub IsVerdict-opened : (tracks : List Track) (f g : Formula) (verdict : Verdict) → ((ts : List ℕ) → AreOf tracks ts → IsOpened ts f g) →
-    IsVerdict tracks g verdict → IsVerdict tracks f verdict
-IsVerdict-opened tracks f g Verdict.None opened none =
-    λ n a covers sat.
-    let b = (opened (each_once tracks) (each_once-of tracks)).satisfied n a covers sat in
-    none b.depth b.assignment b.covers b.satisfied
-IsVerdict-opened tracks f g (Verdict.Witness nodes w) opened model =
+-- a formula with quantifiers opened tells of the formula
+pub TellsOf-opened : (tracks : List Track) (f g : Formula) → ((ts : List ℕ) → AreOf tracks ts → IsOpened ts f g) → TellsOf tracks g f
+TellsOf-opened tracks f g opened =
     let one = opened (each_once tracks) (each_once-of tracks) in
     record {
-      satisfies = one.satisfies (assignment_of nodes) (Covers-finite (length nodes) (assignment_of nodes) (Covers-tree nodes)) model.satisfies;
-      weighs = model.weighs;
-      least = λ n a covers sat.
+      none = λ none n a covers sat.
           let b = one.satisfied n a covers sat in
-          subst (λ v. w ≤ v) b.is_weight (model.least b.depth b.assignment b.covers b.satisfied);
+          none b.depth b.assignment b.covers b.satisfied;
+      model = λ nodes w model. record {
+        satisfies = one.satisfies (assignment_of nodes) (Covers-finite (length nodes) (assignment_of nodes) (Covers-tree nodes)) model.satisfies;
+        weighs = model.weighs;
+        room = model.room;
+        least = λ n a covers sat.
+            let b = one.satisfied n a covers sat in
+            subst (λ v. w ≤ v) b.is_weight (model.least b.depth b.assignment b.covers b.satisfied);
+      };
     }
-IsVerdict-opened tracks f g Verdict.Limit opened any = tt
+
+-- and of each that is the same
+pub TellsOf-same : (tracks : List Track) (f h g : Formula) → Same f h → TellsOf tracks g h → TellsOf tracks g f
+TellsOf-same tracks f h g same tells = record {
+  none = λ none. IsVerdict-same tracks f h Verdict.None same (tells.none none);
+  model = λ nodes w model. IsVerdict-same tracks f h (Verdict.Witness nodes w) same (tells.model nodes w model);
+}
 
 -- what rests still does where more formulas have numbers
 pub Rests-extends : (g : Spaces) (old new : List Formula) (shelf : Contents) (automata : List AutoView) (kept : List (FormulaId × AutoView)) → Extends old new →

@@ -1,5 +1,6 @@
 pub mod Counting
 pub mod Deciding
+pub mod Telling
 pub mod Going
 pub mod Keeping
 pub mod Own

@@ -80,15 +80,15 @@ impl Decider {
     }
 
     /// Decides a formula: [`Verdict::None`] exactly where no assignment satisfies it; otherwise a tree that satisfies it,
-    /// of least weight on the tracks `weigh`, with that weight, a track that is given more than once counted once; or
+    /// of least weight on the tracks `weigh`, with that weight, a track that is given more than once counted once;
+    /// [`Verdict::TooLarge`] exactly where some assignment satisfies it, but no tree of one of least weight has room; or
     /// [`Verdict::Limit`], only where the formula's Peak exceeds the shelf's limit. Some of the automata that were built are
     /// kept for the next formula.
     ///
     /// # Errors
     ///
-    /// Want of memory; also where a projection on the way has no room for its sets, or a weight on the way or the tree's number
-    /// of nodes none in its integer. It is answered only where the formula as it stands ends so, by a way that stops as soon as
-    /// a limit is licensed.
+    /// Want of memory; also where a projection on the way has no room for its sets. It is answered only where the formula as it
+    /// stands ends so, by a way that stops as soon as a limit is licensed.
     pub fn decide(
         &mut self,
         alloc: Global,
@@ -144,8 +144,9 @@ impl Decider {
 
 /// Decides a formula under a guide, by a [`Decider`] that is used once: [`Verdict::None`] exactly where no assignment
 /// satisfies it; otherwise a tree that satisfies it, of least weight on the tracks `weigh`, with that weight, a track that
-/// is given more than once counted once; or [`Verdict::Limit`], only where the formula's Peak under the guide exceeds the
-/// shelf's limit. The shelf has no table at the call, and none afterwards.
+/// is given more than once counted once; [`Verdict::TooLarge`] exactly where some assignment satisfies it, but no tree of one of
+/// least weight has room; or [`Verdict::Limit`], only where the formula's Peak under the guide exceeds the shelf's limit. The shelf
+/// has no table at the call, and none afterwards.
 ///
 /// # Errors
 ///

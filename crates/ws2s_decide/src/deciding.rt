@@ -18,7 +18,7 @@ use bdd_nodes::Shelf;
 use bdd_walk::{NoMemory, Stop};
 use gta_core::{Auto, release};
 use gta_keep::Kept;
-use gta_witness::least;
+use gta_witness::{Lightest, least};
 use std::alloc::{AllocError, Global};
 use ws2s_core::{FormulaId, Guide, Interner, TrackList};
 
@@ -26,7 +26,7 @@ use ws2s_core::{FormulaId, Guide, Interner, TrackList};
 ///
 /// # Errors
 ///
-/// Want of memory, and what [`least`] has no room for.
+/// Want of memory, also where a projection has no room for its sets.
 pub(crate) fn verdict_of(
     alloc: Global,
     g: &Guide,
@@ -71,7 +71,8 @@ fn verdict_by(
     let found = least(alloc, g, &auto, shelf, weigh);
     release(auto, shelf);
     match found? {
-        None => Ok(Verdict::None),
-        Some((tree, weight)) => Ok(Verdict::Witness(tree, weight)),
+        Lightest::None => Ok(Verdict::None),
+        Lightest::Tree(tree, weight) => Ok(Verdict::Witness(tree, weight)),
+        Lightest::TooLarge => Ok(Verdict::TooLarge),
     }
 }

@@ -64,7 +64,7 @@ impl FirstWay {
     ///
     /// # Errors
     ///
-    /// Want of memory, and what a least tree has no room for.
+    /// Want of memory, also where a projection has no room for its sets.
     pub(crate) fn verdict(
         &mut self,
         alloc: Global,

@@ -1,5 +1,5 @@
-//! Two ways to a verdict: by a formula that is easier to decide, and where that is at the limit or wants memory by the
-//! formula as it stands.
+//! Two ways to a verdict: by a formula that is easier to decide, and where that is at the limit, wants memory or has trees that are
+//! too large alone by the formula as it stands.
 
 ghost use Rattle.std.specs.Prelude.{◌≡◌, ◌<◌, ℕ, [], Some, Ok, IfOk, IfSome, slice_get};
 ghost use Rattle.bdd_nodes.specs.Shelf.{limit_of};
@@ -9,6 +9,7 @@ ghost use Rattle.ws2s_theory.specs.Peaks.{HasPeak};
 ghost use Rattle.ws2s_decide.specs.declared.verdict.Verdict.{Verdict};
 ghost use Rattle.ws2s_decide.specs.Going.{Rests};
 ghost use Rattle.ws2s_decide.specs.Deciding.{IsVerdict};
+ghost use Rattle.ws2s_decide.specs.Telling.{TellsOf};
 ghost use Rattle.ws2s_decide.specs.Own.{IsReady};
 
 use crate::deciding::verdict_of;
@@ -22,8 +23,9 @@ use std::alloc::Global;
 use ws2s_context::{in_context, opened};
 use ws2s_core::{FormulaId, Guide, Interner, TrackList};
 
-/// The number of a formula each verdict on which is one on the formula with the given number: it is rewritten in its context,
-/// and the quantifiers at its end are opened.
+/// The number of a formula each verdict on which is one on the formula with the given number, unless its trees are too large: it is
+/// rewritten in its context, and the quantifiers at its end are opened. The trees of the sets that were quantified count too, so they
+/// may be large where the formula's own aren't.
 ///
 /// # Errors
 ///
@@ -36,7 +38,7 @@ fn easier(
 ) -> Result<FormulaId, NoMemory>
     requires { (f : Formula) × (slice_get interner.old id.0 ≡ Some f) }
     ensures value { IfOk result (λ made. (f : Formula) → slice_get interner.old id.0 ≡ Some f →
-        (g : Formula) × (slice_get interner.new made.0 ≡ Some g) × ((verdict : Verdict) → IsVerdict weigh.now g verdict → IsVerdict weigh.now f verdict)) }
+        (g : Formula) × (slice_get interner.new made.0 ≡ Some g) × TellsOf weigh.now g f) }
     ensures kept { Extends interner.old interner.new }
 {
     let rewritten = in_context(alloc, interner, id, weigh)?;
@@ -54,7 +56,7 @@ fn easier_than(
 ) -> Option<FormulaId>
     requires { (f : Formula) × (slice_get interner.old id.0 ≡ Some f) }
     ensures value { IfSome result (λ made. (f : Formula) → slice_get interner.old id.0 ≡ Some f →
-        (g : Formula) × (slice_get interner.new made.0 ≡ Some g) × ((verdict : Verdict) → IsVerdict weigh.now g verdict → IsVerdict weigh.now f verdict)) }
+        (g : Formula) × (slice_get interner.new made.0 ≡ Some g) × TellsOf weigh.now g f) }
     ensures kept { Extends interner.old interner.new }
 {
     match easier(alloc, interner, id, weigh) {
@@ -68,7 +70,7 @@ fn easier_than(
 ///
 /// # Errors
 ///
-/// Want of memory, and what a least tree has no room for, on the second of these ways.
+/// Want of memory, also where a projection has no room for its sets, on the second of these ways.
 fn verdict_alone(
     alloc: Global,
     g: &Guide,
@@ -102,13 +104,13 @@ fn verdict_alone(
 }
 
 /// The verdict on the formula with the number: by an easier one, under the first way's guide and in its room, and where that
-/// is at the limit or wants memory by the formula as it stands. Its Peak on this shelf alone licenses a limit, so only the second
+/// is at the limit, wants memory or has trees that are too large by the formula as it stands. Its Peak on this shelf alone licenses a limit, so only the second
 /// way answers one, as soon as it is licensed. Want of memory on the first way is no answer either, also where a projection has
 /// met its room for sets: the formula as it stands may need less, or be at the limit.
 ///
 /// # Errors
 ///
-/// Want of memory, and what a least tree has no room for, on the last way that is tried.
+/// Want of memory, also where a projection has no room for its sets, on the last way that is tried.
 pub(crate) fn decide_number(
     alloc: Global,
     g: &Guide,
@@ -141,7 +143,7 @@ pub(crate) fn decide_number(
     match first.verdict(alloc, interner, made, once, weigh, limit) {
         Ok(Verdict::None) => Ok(Verdict::None),
         Ok(Verdict::Witness(tree, weight)) => Ok(Verdict::Witness(tree, weight)),
-        Ok(Verdict::Limit) | Err(_) => {
+        Ok(Verdict::TooLarge) | Ok(Verdict::Limit) | Err(_) => {
             verdict_of(alloc, g, interner, id, early, weigh, kept, shelf)
         }
     }

@@ -14,6 +14,7 @@ pub enum Found {
     Unsatisfiable,
     /// A tree of this weight, and how many nodes it has.
     Tree(u64, usize),
+    TooLarge,
     Limit,
 }
 
@@ -25,6 +26,7 @@ fn outcome_of(verdict: Verdict) -> Found {
     match verdict {
         Verdict::None => Found::Unsatisfiable,
         Verdict::Witness(tree, weight) => found_tree(&tree, weight),
+        Verdict::TooLarge => Found::TooLarge,
         Verdict::Limit => Found::Limit,
     }
 }

@@ -24,12 +24,12 @@ returns-clause-goes_on c =
     let of_row = IsSettled-weight found (Row t c.args.row) c.in-Some.left c.in-Some.ensures in
     let of_column = IsSettled-weight found (Column t c.args.column) c.in-Some-settled.right c.in-Some-settled.ensures in
     (c.in_ok-relax.ensures form weighs (key c.args.weight) c.requires.search
-    (ahead found t c.args.row c.args.column c.in-Some.left c.in-Some-settled.right c.args.weight c.in_ok-sum.sum c.requires.settled of_row of_column
-    c.in_ok-sum.ensures.no_less c.in_ok-sum.ensures.no_less_other)
+    (ahead found t c.args.row c.args.column c.in-Some.left c.in-Some-settled.right c.args.weight c.under_node-sum.result c.requires.settled of_row of_column
+    c.under_node-sum.ensures.no_less c.under_node-sum.ensures.no_less_other)
     (cell-justified form weighs found t c.args.row c.args.column c.in-Some-get-2.cell.now c.in-Some.left c.in-Some-settled.right
-    c.in_ok-sum.sum c.in-Some-get.part.now c.in-Some-get-3.listed.now c.goal_of-goal.result
+    c.under_node-sum.result c.in-Some-get.part.now c.in-Some-get-3.listed.now c.goal_of-goal.result
     (sym c.in-Some-get.ensures.value) (sym c.in-Some-get-2.ensures.value) (sym c.in-Some-get-3.ensures.value) c.goal_of-goal.ensures
-    of_row of_column (sym c.in_ok-sum.ensures.value))).0
+    of_row of_column (sym c.under_node-sum.ensures.value))).0
 
 pub returns-clause-cell : goal.returns-clause-cell
 returns-clause-cell c =
@@ -40,13 +40,13 @@ returns-clause-cell c =
     let of_row = IsSettled-weight found (Row t c.args.row) c.in-Some.left c.in-Some.ensures in
     let of_column = IsSettled-weight found (Column t c.args.column) c.in-Some-settled.right c.in-Some-settled.ensures in
     let both = c.in_ok-relax.ensures form weighs (key c.args.weight) c.requires.search
-    (ahead found t c.args.row c.args.column c.in-Some.left c.in-Some-settled.right c.args.weight c.in_ok-sum.sum c.requires.settled of_row of_column
-    c.in_ok-sum.ensures.no_less c.in_ok-sum.ensures.no_less_other)
+    (ahead found t c.args.row c.args.column c.in-Some.left c.in-Some-settled.right c.args.weight c.under_node-sum.result c.requires.settled of_row of_column
+    c.under_node-sum.ensures.no_less c.under_node-sum.ensures.no_less_other)
     (cell-justified form weighs found t c.args.row c.args.column c.in-Some-get-2.cell.now c.in-Some.left c.in-Some-settled.right
-    c.in_ok-sum.sum c.in-Some-get.part.now c.in-Some-get-3.listed.now c.goal_of-goal.result
+    c.under_node-sum.result c.in-Some-get.part.now c.in-Some-get-3.listed.now c.goal_of-goal.result
     (sym c.in-Some-get.ensures.value) (sym c.in-Some-get-2.ensures.value) (sym c.in-Some-get-3.ensures.value) c.goal_of-goal.ensures
-    of_row of_column (sym c.in_ok-sum.ensures.value)) in
+    of_row of_column (sym c.under_node-sum.ensures.value)) in
     cell-follows form weighs found (found_by c.relax.new.search) t c.args.row c.args.column c.in-Some-get-2.cell.now c.in-Some.left c.in-Some-settled.right
-    c.in_ok-sum.sum c.in-Some-get.part.now c.in-Some-get-3.listed.now c.goal_of-goal.result
+    c.under_node-sum.result c.in-Some-get.part.now c.in-Some-get-3.listed.now c.goal_of-goal.result
     (sym c.in-Some-get.ensures.value) (sym c.in-Some-get-2.ensures.value) (sym c.in-Some-get-3.ensures.value) c.goal_of-goal.ensures
-    of_row of_column (sym c.in_ok-sum.ensures.value) both.0.improves both.1
+    of_row of_column (sym c.under_node-sum.ensures.value) both.0.improves both.1

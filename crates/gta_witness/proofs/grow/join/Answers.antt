@@ -1,5 +1,5 @@
 -- Two trees come under a node.
-use Rattle.std.proofs.Common.{◌≡◌, ◌<◌, ℕ, List, [], ◌∷◌, ◌++◌, length, Option, Some, None, sym, ap, ◌∙◌, subst, arith}
+use Rattle.std.proofs.Common.{◌≡◌, ◌<◌, ℕ, List, [], ◌∷◌, ◌++◌, length, Option, Some, None, sym, ap, ◌∙◌, subst}
 use Rattle.plain_data.specs.Stacks.{top, rest}
 use Rattle.ws2s_core.specs.declared.label_tree.TreeNode.{TreeNode}
 use Rattle.gta_witness.specs.Searching.{found_by}
@@ -13,7 +13,7 @@ returns c = λ tasks out grows.
     let weigh = c.args.weigh.now in
     let found = found_by c.args.search.now in
     let made = c.args.made.now in
-    let few : length c.args.nodes.now < 4294967294 = (let f = c.if-place.false in let n = c.len-place.ensures in omega arith) in
+    let few : length c.args.nodes.now < 4294967294 = c.requires.few in
     let is_right : c.take_or-right.result ≡ top None made = c.take_or-right.ensures.taken in
     let is_left : c.take_or-left.result ≡ top None (rest made) =
     c.take_or-left.ensures.taken ∙ ap (λ (xs : List (Option ℕ)). top None xs) c.take_or-right.ensures.left in
@@ -29,4 +29,4 @@ returns c = λ tasks out grows.
     subst (λ (nodes : List TreeNode). Grows form weigh found nodes tasks c.push-2.new.self out) (sym new_nodes)
     (subst (λ (ms : List (Option ℕ)). Grows form weigh found
     (c.args.nodes.now ++ (record { tracks = c.args.tracks; left = top None (rest made); right = top None made }) ∷ []) tasks ms out) (sym new_made)
-    (join-grows form c.requires.is_form weigh found c.args.nodes.now c.args.tracks tasks made out few grows))
+    (join-grows form c.requires.readable.is_form weigh found c.args.nodes.now c.args.tracks tasks made out few grows))

@@ -1,11 +1,12 @@
 -- A state's tree is begun.
-use Rattle.std.proofs.Common.{◌≡◌, ◌<◌, ℕ, List, ◌∷◌, Option, Some, sym, ap, ◌∙◌, subst, slice_get}
+use Rattle.std.proofs.Common.{◌≡◌, ◌<◌, ℕ, List, ◌∷◌, Option, Some, None, sym, ap, ◌∙◌, subst, slice_get}
 use Rattle.gta_reach.proofs.ReachLemmas.{left-at, right-at}
 use Rattle.gta_witness.specs.declared.grow.Task.{Task}
 use Rattle.gta_witness.specs.declared.grow.Task.TheVariants.{Visit, Join}
 use Rattle.gta_witness.specs.Searching.{found_by}
 use Rattle.gta_witness.specs.Reading.{HasSomeStep}
 use Rattle.gta_witness.specs.Growing.{Grows, rounds}
+use Rattle.gta_witness.proofs.ReadLemmas.{has-space}
 use Rattle.gta_witness.proofs.GrowLemmas.{visit-none, visit-some, visit-none-fewer, visit-some-fewer}
 use Rattle.gta_witness.proofs.grow.visit.Goals as goal
 
@@ -42,3 +43,11 @@ returns-in_ok-push-in-Some-3 c = λ nodes out grows.
           (visit-some-fewer form c.requires.readable.is_form weigh found nodes c.args.space c.args.state part.children.0 part.children.1 c.in-Some.step
           c.args.tasks.now c.args.made.now out grows step at_left at_right),
     )
+
+pub unreachable-requires : goal.unreachable-requires
+unreachable-requires c =
+    let form = c.args.form.now in
+    let settled = c.requires.settled in
+    let space = has-space form c.args.weigh.now (found_by c.args.search.now) c.requires.readable c.args.space c.args.state settled.0 settled.1 in
+    let both : Some space.0 ≡ None = sym space.1 ∙ sym c.in_default.ensures.value in
+    absurd cc

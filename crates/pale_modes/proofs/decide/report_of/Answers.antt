@@ -1,5 +1,5 @@
 use Rattle.std.proofs.lemmas.Result.{IfOk-weaker}
-use Rattle.pale_modes.proofs.DecidingLemmas.{HaveOnePosition-example, says_unsatisfiable, says_valid, says_above, says_satisfiable}
+use Rattle.pale_modes.proofs.DecidingLemmas.{HaveOnePosition-example, says_unsatisfiable, says_valid, says_too_large, says_above, says_satisfiable}
 use Rattle.pale_modes.proofs.decide.report_of.Goals as goal
 
 pub example_report-requires : goal.example_report-requires
@@ -15,6 +15,11 @@ pub returns-in-Valid : goal.returns-in-Valid
 returns-in-Valid c = IfOk-weaker c.line-in-Valid.result _ _
     (λ report is. says_valid c.args.limit c.args.text.now c.args.answer.now c.requires.true_of c.requires.small c.in-Valid.is report.items is)
     c.line-in-Valid.ensures
+
+pub returns-in-TooLarge : goal.returns-in-TooLarge
+returns-in-TooLarge c = IfOk-weaker c.line-in-TooLarge.result _ _
+    (λ report is. says_too_large c.args.limit c.args.text.now c.args.answer.now c.requires.true_of c.requires.small c.in-TooLarge.is report.items is)
+    c.line-in-TooLarge.ensures
 
 pub returns-in-Limit : goal.returns-in-Limit
 returns-in-Limit c = IfOk-weaker c.line-in-Limit.result _ _

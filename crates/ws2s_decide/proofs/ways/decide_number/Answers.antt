@@ -1,5 +1,4 @@
 use Rattle.std.proofs.Common.{[]}
-use Rattle.ws2s_decide.specs.declared.verdict.Verdict.{Verdict}
 use Rattle.ws2s_decide.proofs.OwnLemmas.{IsReady-extends}
 use Rattle.ws2s_decide.proofs.WaysLemmas.{Rests-extends, there-still}
 use Rattle.ws2s_decide.proofs.ways.decide_number.Goals as goal
@@ -34,10 +33,10 @@ verdict_of-requires-clause-there c =
 pub returns-in-Ok-None-clause-value : goal.returns-in-Ok-None-clause-value
 returns-in-Ok-None-clause-value c = λ f there.
     let made = c.in-Some.ensures.value f there in
-    made.2 Verdict.None (rw c.in-Ok-None.field-0-is at c.in-Ok-None.ensures.value made.0 made.1)
+    made.2.none (rw c.in-Ok-None.field-0-is at c.in-Ok-None.ensures.value made.0 made.1)
 
 pub returns-in-Ok-Witness-clause-value : goal.returns-in-Ok-Witness-clause-value
 returns-in-Ok-Witness-clause-value c = λ f there.
     let made = c.in-Some.ensures.value f there in
-    made.2 (Verdict.Witness c.in-Ok-Witness.tree c.in-Ok-Witness.weight)
+    made.2.model c.in-Ok-Witness.tree c.in-Ok-Witness.weight
     (rw c.in-Ok-Witness.field-0-is at c.in-Ok-Witness.ensures.value made.0 made.1)

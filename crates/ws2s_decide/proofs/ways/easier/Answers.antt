@@ -1,5 +1,5 @@
 use Rattle.ws2s_context.proofs.ConjunctsLemmas.{Extends-trans}
-use Rattle.ws2s_decide.proofs.WaysLemmas.{IsVerdict-same, IsVerdict-opened}
+use Rattle.ws2s_decide.proofs.WaysLemmas.{TellsOf-same, TellsOf-opened}
 use Rattle.ws2s_decide.proofs.ways.easier.Goals as goal
 
 pub opened-requires : goal.opened-requires
@@ -13,9 +13,7 @@ returns-clause-value c = λ f e.
     let made = c.in_ok-made.ensures.value rewritten.0 rewritten.1 in (
       made.0,
       made.1,
-      λ verdict h.
-          IsVerdict-same c.args.weigh.now f rewritten.0 verdict rewritten.2
-          (IsVerdict-opened c.args.weigh.now rewritten.0 made.0 verdict made.2 h),
+      TellsOf-same c.args.weigh.now f rewritten.0 made.0 rewritten.2 (TellsOf-opened c.args.weigh.now rewritten.0 made.0 made.2),
     )
 
 pub returns-clause-kept : goal.returns-clause-kept
