@@ -1,3 +1,4 @@
+pub mod Completing
 pub mod Deciding
 pub mod Formatting
 pub mod Replaying

@@ -2,9 +2,11 @@
 //! shares: the status of a call, the lines and numbers that any mode may write, and how a call ends after what its sink left.
 //!
 //! `specs/Replaying.antt`, `specs/Formatting.antt` and `specs/Deciding.antt` say what each of the three writes for a text and
-//! with which status; `specs/Written.antt` says what a sink was told of an allowed output.
+//! with which status; `specs/Written.antt` says what a sink was told of an allowed output, and `specs/Completing.antt` of which
+//! texts something is said whatever their size.
 #![tactic(auto)]
 
+mod completing;
 mod decide;
 mod format;
 mod laws;
@@ -13,6 +15,7 @@ mod report;
 mod status;
 mod writing;
 
+pub use completing::texts_within_their_peaks_are_decided;
 pub use decide::decide_text;
 pub use format::format_text;
 pub use laws::formatting_is_one;

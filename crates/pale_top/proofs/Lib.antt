@@ -1,3 +1,4 @@
 mod CallLemmas
 mod CheckingLemmas
 mod PromiseLemmas
+mod CompletingLemmas

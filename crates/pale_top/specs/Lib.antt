@@ -1,3 +1,4 @@
 pub mod Checking
+pub mod Completing
 pub mod Generating
 pub mod Output

@@ -5,11 +5,15 @@ ghost use Rattle.pale_io.specs.Faults.{Rose};
 ghost use Rattle.pale_io.specs.Told.{without_first};
 ghost use Rattle.pale_io.specs.Whole.{ReadsFront};
 ghost use Rattle.pale_words.specs.declared.words.Settings.{Settings};
+ghost use Rattle.pale_generator.specs.Generated.{program_text};
+ghost use Rattle.whole_program.specs.ProgramTexts.{IsReadAs};
 ghost use Rattle.pale_words.specs.Words.{AsksFor, Gives, IsRefused};
 ghost use Rattle.pale_modes.specs.Report.{too_long_line};
 ghost use Rattle.pale_modes.specs.Texts.{most_bytes};
+ghost use Rattle.pale_modes.specs.Written.{Wrote};
 ghost use Rattle.program_promises.specs.Safety.{IsSafe};
 ghost use Rattle.program_promises.specs.Completeness.{IsWithinPeaks};
+ghost use Rattle.pale_top.specs.Completing.{Completes, GensEach};
 ghost use Rattle.pale_top.specs.Output.{Answers, Begins, IsAnswer, IsCutShort, CallOutput};
 
 use crate::text::{MOST_BYTES, pale_bytes};
@@ -48,6 +52,8 @@ fn answer<S: Source, K: Sink>(
     ensures begins { IsCutShort result → Begins (CallOutput (map string_bytes words.now.items))
         (S.left source.old) (K.written sink.old) (K.written sink.new) }
 
+    ensures each_answered { IsAnswer result → (settings : _) → Gives (map string_bytes words.now.items) settings →
+        IfSome (S.left source.old) (λ text. length text ≤ most_bytes → Completes settings text (K.written sink.old) (K.written sink.new) result) }
     ensures whole_runs { result ≡ Status.Good → AsksFor (map string_bytes words.now.items) Mode.Check → IfSome (S.left source.old) IsSafe }
     ensures complete { IsAnswer result → (settings : _) → Gives (map string_bytes words.now.items) settings → settings.mode ≡ Mode.Check →
         IfSome (S.left source.old) (λ text. length text ≤ most_bytes → IsWithinPeaks settings.limit text →
@@ -90,6 +96,14 @@ pub fn pale_main<S: Source, K: Sink>(
     // At want of memory and at a fault of the sink, it begins such an output.
     ensures begins { IsCutShort result → Begins (CallOutput (map string_bytes words.now.items))
         (S.left source.old) (K.written sink.old) (K.written sink.new) }
+
+    // What has no fault gets its answer, and each field and triple whose own Peak is within the limit its verdict.
+    ensures each_answered { IsAnswer result → (settings : _) → Gives (map string_bytes words.now.items) settings →
+        IfSome (S.left source.old) (λ text. length text ≤ most_bytes → Completes settings text (K.written sink.old) (K.written sink.new) result) }
+    // And what `gen` counts is such a report of the program of its seed.
+    ensures each_counted { IsAnswer result → (settings : _) → Gives (map string_bytes words.now.items) settings → settings.mode ≡ Mode.Gen →
+        length (program_text settings.seed) ≤ most_bytes → (program : _) (triples : _) → IsReadAs (program_text settings.seed) program triples →
+        Wrote (GensEach settings.limit settings.seed program triples) (K.written sink.old) (K.written sink.new) result }
 
     // Where a check answers Good, no whole run fails; and below the Peaks it answers Good or Bad.
     ensures whole_runs { result ≡ Status.Good → AsksFor (map string_bytes words.now.items) Mode.Check → IfSome (S.left source.old) IsSafe }

@@ -2,21 +2,28 @@
 ghost use Rattle.std.specs.Prelude.{◌≡◌, ◌≢◌, ◌≤◌, ◌⊎◌, length, IfOk, OnErr, IsErrOf, map};
 ghost use Rattle.std.specs.String.{string_bytes};
 ghost use Rattle.pale_io.specs.Faults.{Rose};
+ghost use Rattle.pale_generator.specs.Generated.{program_text};
+ghost use Rattle.whole_program.specs.ProgramTexts.{IsReadAs};
 ghost use Rattle.pale_words.specs.Words.{AsksFor, Gives, IsLimit};
 ghost use Rattle.pale_modes.specs.Report.{too_long_line};
 ghost use Rattle.pale_modes.specs.Texts.{most_bytes};
 ghost use Rattle.pale_modes.specs.Written.{Wrote, WroteAtMost};
 ghost use Rattle.program_promises.specs.Safety.{IsSafe};
 ghost use Rattle.program_promises.specs.Completeness.{IsWithinPeaks};
+ghost use Rattle.pale_top.specs.Completing.{Completes, GensEach};
 ghost use Rattle.pale_top.specs.Output.{IsAnswer, IsCutShort, CallOutput, Output, usage_line};
 
 use crate::check::check_text;
 use crate::generate::gen_text;
 use pale_io::{Sink, WriteStop};
-use pale_modes::{Status, decide_text, ended, format_text, replay_text, say};
+use pale_modes::{
+    Status, decide_text, ended, format_text, formatting_is_one, replay_text, say,
+    texts_within_their_peaks_are_decided,
+};
 use pale_words::{Mode, Settings, WordsStop, read_words};
 use program_promises::{
-    good_reports_have_safe_runs, reports_within_the_peaks_are_verdicts, texts_have_one_reading,
+    good_reports_have_safe_runs, reports_tell_each_within_its_peak,
+    reports_within_the_peaks_are_verdicts, texts_have_one_reading,
 };
 use std::alloc::Global;
 use ws2s_pass::PassList;
@@ -116,6 +123,14 @@ pub fn pale_bytes<K: Sink>(
     ensures begins { IsCutShort result → WroteAtMost (CallOutput (map string_bytes words.now.items) text.now)
         (K.written sink.old) (K.written sink.new) }
 
+    // What has no fault gets its answer, and each field and triple whose own Peak is within the limit its verdict.
+    ensures each_answered { IsAnswer result → (settings : _) → Gives (map string_bytes words.now.items) settings → length text.now ≤ most_bytes →
+        Completes settings text.now (K.written sink.old) (K.written sink.new) result }
+    // And what `gen` counts is such a report of the program of its seed.
+    ensures each_counted { IsAnswer result → (settings : _) → Gives (map string_bytes words.now.items) settings → settings.mode ≡ Mode.Gen →
+        length (program_text settings.seed) ≤ most_bytes → (program : _) (triples : _) → IsReadAs (program_text settings.seed) program triples →
+        Wrote (GensEach settings.limit settings.seed program triples) (K.written sink.old) (K.written sink.new) result }
+
     // Where a check answers Good, no whole run fails; and below the Peaks it answers Good or Bad.
     ensures whole_runs { result ≡ Status.Good → AsksFor (map string_bytes words.now.items) Mode.Check → IsSafe text.now }
     ensures complete { IsAnswer result → (settings : _) → Gives (map string_bytes words.now.items) settings → settings.mode ≡ Mode.Check →
@@ -130,5 +145,8 @@ pub fn pale_bytes<K: Sink>(
     texts_have_one_reading();
     good_reports_have_safe_runs();
     reports_within_the_peaks_are_verdicts();
+    reports_tell_each_within_its_peak();
+    formatting_is_one();
+    texts_within_their_peaks_are_decided();
     ended(answer_words(alloc, words, text, passes, sink))
 }

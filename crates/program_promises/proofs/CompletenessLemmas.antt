@@ -67,7 +67,7 @@ module _ (laws : Laws) (limit : ℕ) (program : TypedProgram) (triples : List Tr
       let (p, peak) = laws.peaks (guide_of program.types (type_vars program.types) []) (formula_of program.types f)
       (IsGuide-guide_of program.types (type_vars program.types) []) in
       let above : limit < p = over p peak in
-      let below : p ≤ limit = within.fields f p pointer peak in
+      let below : p ≤ limit = within.fields f pointer p peak in
       absurd (omega (arith, above, below))
 
   both-functional : (way : FieldWay) (ways : List FieldWay) → is_functional way ≡ true → list_all is_functional ways ≡ true →
@@ -92,7 +92,7 @@ module _ (laws : Laws) (limit : ℕ) (program : TypedProgram) (triples : List Tr
   one-decided k t _ _ inside (triple_at_limit e there over) =
       let (p, peak) = laws.greatest program.types e.vars t in
       let above : limit < p = over p peak in
-      let below : p ≤ limit = within.each t e p inside there peak in
+      let below : p ≤ limit = within.each t inside e p there peak in
       absurd (omega (arith, above, below))
 
   both-decided : (way : TripleWay) (ways : List TripleWay) → is_at_limit way ≡ false → list_any is_at_limit ways ≡ false →

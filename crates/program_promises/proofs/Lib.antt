@@ -1,3 +1,4 @@
 mod ReadingLemmas
 mod SafetyLemmas
 mod CompletenessLemmas
+mod TellingLemmas

@@ -2,14 +2,18 @@
 
 ghost use Rattle.std.specs.Prelude.{◌≡◌, ◌⊎◌, ℕ, List};
 ghost use Rattle.pale_text.specs.declared.refusal.Refusal.{Refusal};
+ghost use Rattle.store_core.specs.Tables.{TypeEntry};
 ghost use Rattle.store_exec.specs.declared.triple.Triple.{Triple};
 ghost use Rattle.pale_typed.specs.TypedPrograms.{TypedProgram};
 ghost use Rattle.whole_program.specs.ProgramTexts.{IsReadAs, IsRefusedAs};
+ghost use Rattle.program_judge.specs.declared.ways.FieldWay.{FieldWay};
+ghost use Rattle.program_judge.specs.declared.ways.TripleWay.{TripleWay};
 ghost use Rattle.program_judge.specs.declared.ways.Ending.{Ending};
 ghost use Rattle.program_judge.specs.declared.ways.Ending.TheVariants as ending;
-ghost use Rattle.program_judge.specs.Reports.{ReportsProgram};
+ghost use Rattle.program_judge.specs.Reports.{pointer_fields, ReportsFields, ReportsTriples, ReportsProgram};
 ghost use Rattle.program_promises.specs.Safety.{RunsNeverFail};
 ghost use Rattle.program_promises.specs.Completeness.{ArePeaksWithin};
+ghost use Rattle.program_promises.specs.Telling.{TellsFields, TellsTriples, TellsProgram};
 
 use field_judge::laws::ambiguous_fields_are_not_functional;
 use pale_parse::one_program;
@@ -49,6 +53,21 @@ pub fn reports_within_the_peaks_are_verdicts()
         (how ≡ ending.Good) ⊎ (how ≡ ending.Bad) }
 {
     ambiguous_fields_are_not_functional();
+    triples_have_one_peak();
+    peaks_exist();
+}
+
+/// In a report each field and each triple has a verdict whose own Peak is within the limit, whatever the Peaks of the others are:
+/// such a field is told to be functional or ambiguous, and where every field is told to be functional, such a triple is told to be
+/// valid or invalid.
+pub fn reports_tell_each_within_its_peak()
+    ensures fields { (limit : ℕ) (types : List TypeEntry) (lines : List ℕ) (ways : List FieldWay) →
+        ReportsFields limit types (pointer_fields types) lines ways → TellsFields limit types lines ways }
+    ensures triples { (limit : ℕ) (program : TypedProgram) (triples : List Triple) (lines : List ℕ) (ways : List TripleWay) →
+        ReportsTriples limit program 1 triples lines ways → TellsTriples limit program triples lines ways }
+    ensures program { (limit : ℕ) (program : TypedProgram) (triples : List Triple) (output : List ℕ) (how : Ending) →
+        ReportsProgram limit program triples output how → TellsProgram limit program triples output how }
+{
     triples_have_one_peak();
     peaks_exist();
 }

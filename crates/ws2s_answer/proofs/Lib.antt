@@ -1,1 +1,2 @@
 mod AnsweringLemmas
+mod WithinLemmas

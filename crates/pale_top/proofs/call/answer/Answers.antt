@@ -8,6 +8,8 @@ use Rattle.program_promises.specs.Completeness.{IsWithinPeaks}
 use Rattle.pale_top.specs.Output.{CallOutput, IsAnswer, given}
 use Rattle.pale_top.proofs.CallLemmas.{all_read, front_read, line_answers, line_begins, line_status, long_text, some_text}
 use Rattle.pale_top.proofs.CallLemmas.{told_answers, told_begins, too_long_output}
+use Rattle.pale_top.specs.Completing.{Completes}
+use Rattle.pale_top.proofs.CompletingLemmas.{told_completed}
 use Rattle.pale_top.proofs.PromiseLemmas.{told_decided, told_safe, too_long_decided}
 use Rattle.pale_top.proofs.call.answer.Goals as goal
 
@@ -26,6 +28,14 @@ returns-in-Ok-clause-begins g c cut =
     let told = subst (λ (t : List ℕ). IfSome left (λ bytes. t ≡ bytes)) (sym c.deref.ensures.value) c.in-Ok.ensures.whole.whole in
     told_begins (map string_bytes c.args.words.now.items) text (g.K.Sink.written c.args.sink.now) (g.K.Sink.written c.pale_bytes.new.sink) left
     told (c.pale_bytes.ensures.begins cut)
+
+pub returns-in-Ok-clause-each_answered : goal.returns-in-Ok-clause-each_answered
+returns-in-Ok-clause-each_answered g c is settings gives =
+    let left = g.S.Source.left c.args.source.now in
+    let text = c.deref.result.now in
+    let told = subst (λ (t : List ℕ). IfSome left (λ bytes. t ≡ bytes)) (sym c.deref.ensures.value) c.in-Ok.ensures.whole.whole in
+    told_completed settings left (g.K.Sink.written c.args.sink.now) (g.K.Sink.written c.pale_bytes.new.sink) text c.pale_bytes.result told
+    (c.pale_bytes.ensures.each_answered is settings gives)
 
 pub returns-in-Ok-clause-whole_runs : goal.returns-in-Ok-clause-whole_runs
 returns-in-Ok-clause-whole_runs g c good asks =
@@ -79,6 +89,13 @@ returns-in-Err-TooLong-clause-whole_runs g c good asks =
     let bad = line_status (g.K.Sink.written c.args.sink.now) (g.K.Sink.written c.say.new.sink) too_long_line Text Good c.say.result c.ended.result
     c.ended.ensures c.say.ensures.ok (subst IsAnswer (sym good) tt) good in
     absurd (cc)
+
+pub returns-in-Err-TooLong-clause-each_answered : goal.returns-in-Err-TooLong-clause-each_answered
+returns-in-Err-TooLong-clause-each_answered g c is settings gives =
+    let many = c.in-Err-TooLong.ensures.too_long (search rules) in
+    too_long_decided most_bytes
+    (λ text. Completes settings text (g.K.Sink.written c.args.sink.now) (g.K.Sink.written c.say.new.sink) c.ended.result)
+    (g.S.Source.left c.args.source.now) many.more
 
 pub returns-in-Err-TooLong-clause-complete : goal.returns-in-Err-TooLong-clause-complete
 returns-in-Err-TooLong-clause-complete g c is settings gives asks =

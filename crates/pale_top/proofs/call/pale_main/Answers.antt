@@ -1,7 +1,8 @@
-use Rattle.std.proofs.Common.{rules, refl, inl, [], map}
+use Rattle.std.proofs.Common.{rules, refl, inl, inr, [], map}
 use Rattle.std.specs.String.{string_bytes}
 use Rattle.pale_words.specs.declared.words.Mode.TheVariants.{Check}
 use Rattle.pale_top.proofs.CallLemmas.{asks_for_none, asks_for_text, some_text, unread_answers, unread_begins}
+use Rattle.pale_top.proofs.CompletingLemmas.{unread_completed}
 use Rattle.pale_top.proofs.call.pale_main.Goals as goal
 
 pub returns-in-Ok-true-clause-unread : goal.returns-in-Ok-true-clause-unread
@@ -17,6 +18,15 @@ pub returns-in-Ok-false-clause-begins : goal.returns-in-Ok-false-clause-begins
 returns-in-Ok-false-clause-begins g c cut =
     unread_begins (map string_bytes c.args.words.now.items) (c.reads_text.ensures.unread (search rules)) [] (g.S.Source.left c.args.source.now)
     (g.K.Sink.written c.args.sink.now) (g.K.Sink.written c.pale_bytes.new.sink) (c.pale_bytes.ensures.begins cut)
+
+pub returns-in-Ok-true-clause-each_counted : goal.returns-in-Ok-true-clause-each_counted
+returns-in-Ok-true-clause-each_counted g c is settings gives asks short program triples read =
+    absurd (asks_for_text (map string_bytes c.args.words.now.items) (inr (settings, gives, asks)) (c.reads_text.ensures.reads (search rules)))
+
+pub returns-in-Ok-false-clause-each_answered : goal.returns-in-Ok-false-clause-each_answered
+returns-in-Ok-false-clause-each_answered g c is settings gives =
+    unread_completed (map string_bytes c.args.words.now.items) (c.reads_text.ensures.unread (search rules)) settings gives
+    (g.S.Source.left c.args.source.now) (g.K.Sink.written c.args.sink.now) (g.K.Sink.written c.pale_bytes.new.sink) c.pale_bytes.result
 
 pub returns-in-Ok-false-clause-whole_runs : goal.returns-in-Ok-false-clause-whole_runs
 returns-in-Ok-false-clause-whole_runs g c good asks =

@@ -2,6 +2,7 @@ use Rattle.std.proofs.Common.{map, subst, sym}
 use Rattle.std.specs.String.{string_bytes}
 use Rattle.pale_top.specs.Output.{IsAnswer}
 use Rattle.pale_top.proofs.CallLemmas.{no_read_fault, text_begun, text_wrote, write_failed}
+use Rattle.pale_top.proofs.CompletingLemmas.{completed, counted}
 use Rattle.pale_top.proofs.PromiseLemmas.{decided_call, safe_call}
 use Rattle.pale_top.proofs.text.pale_bytes.Goals as goal
 
@@ -14,6 +15,38 @@ pub returns-clause-begins : goal.returns-clause-begins
 returns-clause-begins g c =
     text_begun (map string_bytes c.args.words.now.items) c.args.text.now (g.K.Sink.written c.args.sink.now) (g.K.Sink.written c.answer_words.new.sink)
     c.answer_words.result c.ended.result c.ended.ensures c.answer_words.ensures.ok c.answer_words.ensures.err
+
+pub returns-clause-each_answered : goal.returns-clause-each_answered
+returns-clause-each_answered g c is settings gives short =
+    let words = map string_bytes c.args.words.now.items in
+    let before = g.K.Sink.written c.args.sink.now in
+    let after = g.K.Sink.written c.answer_words.new.sink in
+    let wrote = text_wrote words c.args.text.now before after c.answer_words.result c.ended.result c.ended.ensures c.answer_words.ensures.ok is in
+    completed (record {
+      one = c.texts_have_one_reading.ensures.one;
+      apart = c.texts_have_one_reading.ensures.apart;
+      fields = c.reports_tell_each_within_its_peak.ensures.fields;
+      triples = c.reports_tell_each_within_its_peak.ensures.triples;
+      program = c.reports_tell_each_within_its_peak.ensures.program;
+      spelled = c.formatting_is_one.ensures;
+      decided = c.texts_within_their_peaks_are_decided.ensures;
+    }) c.args.text.now short words before after c.ended.result wrote settings gives
+
+pub returns-clause-each_counted : goal.returns-clause-each_counted
+returns-clause-each_counted g c is settings gives asks short program triples read =
+    let words = map string_bytes c.args.words.now.items in
+    let before = g.K.Sink.written c.args.sink.now in
+    let after = g.K.Sink.written c.answer_words.new.sink in
+    let wrote = text_wrote words c.args.text.now before after c.answer_words.result c.ended.result c.ended.ensures c.answer_words.ensures.ok is in
+    counted (record {
+      one = c.texts_have_one_reading.ensures.one;
+      apart = c.texts_have_one_reading.ensures.apart;
+      fields = c.reports_tell_each_within_its_peak.ensures.fields;
+      triples = c.reports_tell_each_within_its_peak.ensures.triples;
+      program = c.reports_tell_each_within_its_peak.ensures.program;
+      spelled = c.formatting_is_one.ensures;
+      decided = c.texts_within_their_peaks_are_decided.ensures;
+    }) words c.args.text.now before after c.ended.result wrote settings gives asks short program triples read
 
 pub returns-clause-whole_runs : goal.returns-clause-whole_runs
 returns-clause-whole_runs g c good =

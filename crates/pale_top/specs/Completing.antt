@@ -1,0 +1,63 @@
+-- What a text without a fault gets, whatever its size: in `check` a verdict on each field and on each triple whose own Peak is within
+-- the limit, in `ws2s` an answer where its Peak is, and in `replay` and `format` an answer always.
+use Rattle.std.specs.Prelude.{◌≡◌, ℕ, true, false, List, [], length, Option}
+use Rattle.std.specs.List.{list_all}
+use Rattle.store_core.specs.Stores.{StoreMap}
+use Rattle.store_exec.specs.declared.triple.Triple.{Triple}
+use Rattle.pale_syntax.specs.declared.tree.declaration.Program.{Program}
+use Rattle.pale_print.specs.Spelling.{spelling}
+use Rattle.pale_typed.specs.declared.typed.ProcEntry.{ProcEntry}
+use Rattle.pale_typed.specs.TypedPrograms.{TypedProgram}
+use Rattle.whole_program.specs.ProgramTexts.{IsReadAs, IsTextOf}
+use Rattle.ws2s_syntax.specs.Checked as checked
+use Rattle.pale_io.specs.Whole.{WritesAll}
+use Rattle.pale_words.specs.declared.words.Mode.TheVariants.{Check, Replay, Format, Ws2s}
+use Rattle.pale_words.specs.declared.words.Settings.{Settings}
+use Rattle.pale_modes.specs.declared.status.Status.{Status}
+use Rattle.pale_modes.specs.declared.status.Status.TheVariants.{Good}
+use Rattle.pale_modes.specs.Completing.{SpellsStore, TellsStore, IsWithinPeak}
+use Rattle.pale_modes.specs.Deciding.{Says}
+use Rattle.pale_modes.specs.Written.{Wrote}
+use Rattle.program_judge.specs.declared.ways.FieldWay.{FieldWay}
+use Rattle.program_judge.specs.declared.ways.TripleWay.{TripleWay}
+use Rattle.program_judge.specs.declared.ways.Ending.{Ending}
+use Rattle.program_judge.specs.Reports.{is_functional, stopped_ending, judged_ending}
+use Rattle.program_promises.specs.Telling.{TellsFields, TellsTriples, TellsProgram}
+use Rattle.pale_top.specs.Checking.{status_of}
+use Rattle.pale_top.specs.Generating.{gen_line}
+
+-- a report of the program in which each field and each triple within its own Peak has a verdict, and the status by how it ends
+pub record ChecksEach (limit : ℕ) (program : TypedProgram) (triples : List Triple) (output : List ℕ) (status : Status) : Type 0 where
+  pub how : Ending
+  pub tells : TellsProgram limit program triples output how
+  pub ends : status ≡ status_of how
+
+-- by what the sink told before and after, and by the status, the call has written for the text, by the mode:
+pub record Completes (settings : Settings) (text : List ℕ) (before after : Option (List ℕ)) (status : Status) : Type 0 where
+  -- of the program that it is read as, such a report
+  pub check : settings.mode ≡ Check → (program : TypedProgram) (triples : List Triple) → IsReadAs text program triples →
+      Wrote (ChecksEach settings.limit program triples) before after status
+  -- of the tree that it is read as, within the Peak, one of the answers other than `limit`
+  pub ws2s : settings.mode ≡ Ws2s → (tree : checked.Text) → IsWithinPeak settings.limit text tree →
+      Wrote (Says settings.limit tree) before after status × (status ≡ Good)
+  -- of the store that it spells in a triple of its program, what comes of it
+  pub replay : settings.mode ≡ Replay → (program : TypedProgram) (t : Triple) (e : ProcEntry) (s : StoreMap) → SpellsStore text program t e s →
+      Wrote (TellsStore program.types e.vars t s) before after status
+  -- of the program whose text it is, the canonical spelling
+  pub format : settings.mode ≡ Format → (tree : Program) → IsTextOf text tree → WritesAll before after (spelling tree) × (status ≡ Good)
+
+-- how the triples are told where such a report is counted: none where some field isn't told to be functional, and else each
+pub data CountsEach (limit : ℕ) (program : TypedProgram) (triples : List Triple) : List TripleWay → Ending → Type 0 where
+  stopped : (lines : List ℕ) (ways : List FieldWay) → TellsFields limit program.types lines ways → list_all is_functional ways ≡ false
+      → CountsEach limit program triples [] (stopped_ending ways)
+  judged : (lines : List ℕ) (fields : List FieldWay) (reports : List ℕ) (ways : List TripleWay) → TellsFields limit program.types lines fields
+      → list_all is_functional fields ≡ true → TellsTriples limit program triples reports ways
+      → CountsEach limit program triples ways (judged_ending ways)
+
+-- the line of a seed, whose program has these triples, with the counts of such a report, and the status by how it ends
+pub record GensEach (limit seed : ℕ) (program : TypedProgram) (triples : List Triple) (output : List ℕ) (status : Status) : Type 0 where
+  pub ways : List TripleWay
+  pub how : Ending
+  pub counts : CountsEach limit program triples ways how
+  pub line : output ≡ gen_line seed (length program.procs) (length triples) ways
+  pub ends : status ≡ status_of how
