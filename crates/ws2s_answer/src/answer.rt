@@ -51,7 +51,8 @@ fn unless_valid(
     let none = TrackList::new(alloc);
     match decider.decide(alloc, breaks, &none, shelf)? {
         Verdict::None => Ok(Answer::Valid),
-        Verdict::Witness(_, _) | Verdict::TooLarge => Ok(otherwise),
+        Verdict::Witness(_, _) => Ok(otherwise),
+        Verdict::TooLarge => Ok(otherwise),
         Verdict::Limit => Ok(Answer::Limit),
     }
 }

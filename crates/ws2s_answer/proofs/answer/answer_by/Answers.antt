@@ -12,8 +12,8 @@ unless_valid-requires-clause-otherwise c = λ not_valid.
       not_valid = not_valid;
     }
 
-pub unless_valid-in-TooLarge-requires-clause-otherwise : goal.unless_valid-in-TooLarge-requires-clause-otherwise
-unless_valid-in-TooLarge-requires-clause-otherwise c = λ not_valid.
+pub unless_valid-requires-in-TooLarge-clause-otherwise : goal.unless_valid-requires-in-TooLarge-clause-otherwise
+unless_valid-requires-in-TooLarge-clause-otherwise c = λ not_valid.
     let reduced = c.args.reduced.now in
     record {
       large = large_models c.args.text.now reduced.holds reduced.free c.requires.holds (c.requires.reduced).free
