@@ -53,9 +53,10 @@ pub(crate) fn share_rows(
     requires few { length representatives.now ≤ 2 ^ 31 }
     ensures { IfOk result (λ shared. AreSharedRows kinds.now representatives.now shared.numbers shared.states) }
 {
-    let mut numbers = Items::new(alloc);
-    let mut states = Items::new(alloc);
-    let mut rows = HashMap::new(alloc);
+    let many = representatives.len();
+    let mut numbers = Items::from_vec(Vec::with_capacity(alloc, many)?);
+    let mut states = Items::from_vec(Vec::with_capacity(alloc, many)?);
+    let mut rows = HashMap::with_capacity(alloc, many)?;
     for state in representatives {
         let kind = kinds[*state as usize];
         let row = row_of(&mut rows, &mut states, kind, *state)?;
@@ -81,7 +82,7 @@ fn count_up(alloc: Global, many: usize) -> Result<NumberList, AllocError>
     if many > u32::MAX as usize {
         return Err(AllocError);
     }
-    let mut numbers = NumberList::new(alloc);
+    let mut numbers = NumberList::from_vec(Vec::with_capacity(alloc, many)?);
     for number in 0..many as u32 {
         numbers.push(number)?;
     }

@@ -235,6 +235,25 @@ AreReached-closed form is_form reached gen closed = record {
       (record { state = λ s q there marked. gen.generated s q there marked });
 }
 
+-- where all states are marked, what steps give is
+pub IsClosedIn-full : (form : Form) → IsForm form → (reached : List (List Bool)) → AreGenerated form reached →
+    ((s q : ℕ) → s < length reached → q < length (slice_index_or reached s []) → is_reached reached s q ≡ true) →
+    (s : ℕ) → s < length form.spaces → IsClosedIn form reached s
+IsClosedIn-full form is_form reached gen full s there = record {
+  step = λ l r label l_reached r_reached.
+      let g = guide_of form in
+      let is_space : IsSpace g s = (let e = many_spaces form in omega arith) in
+      let l_in = marked-inside (slice_index_or reached (left g s) []) l l_reached in
+      let r_in = marked-inside (slice_index_or reached (right g s) []) r r_reached in
+      let l_many = gen.many (left g s) (is_form.guide.left_inside s is_space) in
+      let r_many = gen.many (right g s) (is_form.guide.right_inside s is_space) in
+      let has = is_form.closed.step s l r label is_space (lt-ltb l (states_of form (left g s)) (omega arith))
+      (lt-ltb r (states_of form (right g s)) (omega arith)) in
+      let below = below-lt ((automaton_of form).step s l r label) (states_of form s) has in
+      let many = gen.many s is_space in
+      full s ((automaton_of form).step s l r label) (let k = gen.spaces in omega arith) (omega arith);
+}
+
 -- a space has few states
 pub few-states : (form : Form) → IsForm form → (k : ℕ) → IsSpace (guide_of form) k → states_of form k ≤ 2 ^ 31
 few-states form is_form k there = pick (slice_get form.spaces k) refl

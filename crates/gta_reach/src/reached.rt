@@ -2,7 +2,8 @@
 
 ghost use Rattle.std.specs.Prelude.{◌≡◌, ◌<◌, ◌^◌, ℕ, true, false, length, [], slice_index_or, slice_set, replicate, IfOk};
 ghost use Rattle.gta_reach.specs.Form.{IsForm};
-ghost use Rattle.gta_reach.specs.Reached.{AreGenerated, AreReached, IsClosedIn};
+ghost use Rattle.gta_classes.specs.Chosen.{is_marked};
+ghost use Rattle.gta_reach.specs.Reached.{AreGenerated, AreReached, IsClosedIn, is_reached};
 
 use crate::explore::explore;
 use crate::form::Form;
@@ -91,12 +92,40 @@ fn reach_more(
     Ok(is_more)
 }
 
+/// Whether all states of a space are marked.
+fn is_full(marks: &[bool]) -> bool
+    ensures { result ≡ true → (q : ℕ) → q < length marks.now → is_marked marks.now q ≡ true }
+{
+    for place in 0..marks.len() {
+        if !marks[place] {
+            return false;
+        }
+    }
+    true
+}
+
+/// Whether all states of each space are marked, so that nothing can be missing.
+fn are_full(reached: &[Items<bool>]) -> bool
+    ensures { result ≡ true → (s q : ℕ) → s < length reached.now → q < length (slice_index_or reached.now s [])
+        → is_reached reached.now s q ≡ true }
+{
+    for s in 0..reached.len() {
+        if !is_full(reached[s].as_slice()) {
+            return false;
+        }
+    }
+    true
+}
+
 /// Marks exactly the reached states of each space.
 pub fn reach(alloc: Global, form: &Form) -> Result<Vec<Items<bool>>, AllocError>
     requires { IsForm form.now }
     ensures { IfOk result (λ reached. AreReached form.now reached.items) }
 {
     let mut reached = explore(alloc, form, initial_states(alloc, form)?)?;
+    if are_full(&reached) {
+        return Ok(reached);
+    }
     for _ in 0..u64::MAX {
         if !reach_more(alloc, form, &mut reached)? {
             return Ok(reached);

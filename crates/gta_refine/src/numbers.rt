@@ -74,7 +74,7 @@ fn number_nodes(
     ensures numbered { IfOk result (λ refs. AreNumbered shelf.new classes.now nodes.now refs.items) }
     ensures shelf { IfOk result (λ refs. IsShelf shelf.new) }
 {
-    let mut refs = Vec::new(alloc);
+    let mut refs = Vec::with_capacity(alloc, nodes.len())?;
     for index in 0..nodes.len() {
         let node = nodes[index];
         let low = reference(&refs, classes, node.low);
@@ -98,7 +98,7 @@ pub fn references(
     requires inside { All (λ one. rank one ≤ length refs.now) listed.now }
     ensures { IfOk result (StandFor classes.now refs.now listed.now) }
 {
-    let mut references = RefList::new(alloc);
+    let mut references = RefList::from_vec(Vec::with_capacity(alloc, listed.len())?);
     for index in 0..listed.len() {
         references.push(reference(refs, classes, listed[index]))?;
     }

@@ -78,7 +78,7 @@ pub(crate) fn number_rows(
 {
     let kinds = kinds_of(space, side);
     let mut ids = vec![in alloc; 0; above(kinds)]?;
-    let mut firsts = HashMap::new(alloc);
+    let mut firsts = HashMap::with_capacity(alloc, own.len())?;
     for state in own {
         let row = row(alloc, space, side, numbers, *state, beside)?;
         let first = first_with(&mut firsts, row, *state)?;

@@ -1,7 +1,7 @@
 //! The formula that no position has cells of two variants.
 
 ghost use Rattle.std.specs.Prelude.{◌≡◌, ◌++◌, map, IfOk, OnOk};
-ghost use Rattle.tree_encode.specs.Tracks.{track_count, variant_track};
+ghost use Rattle.tree_encode.specs.Tracks.{track_count};
 ghost use Rattle.tree_formula.specs.WellEncoded as encoded;
 ghost use Rattle.tree_apart.specs.Apart as formulas;
 ghost use Rattle.tree_apart.specs.Apart.{pairs, HoldsOfTrees};
@@ -10,40 +10,9 @@ use crate::variants::all_variants;
 use std::alloc::{AllocError, Global};
 use store_core::VariantId;
 use tree_encode::Layout;
-use ws2s_core::{Formula, Track};
-use ws2s_forms::{and_list, ex1};
-
-/// The track, or the first where there is none.
-fn track_or_first(track: Option<Track>) -> Track
-    ensures { result ≡ encoded.track_or_first track }
-{
-    match track {
-        Some(track) => track,
-        None => Track(0),
-    }
-}
-
-/// A position is a live cell of a variant.
-fn is_of(l: &Layout<'_>, v: VariantId, a: u32) -> Formula
-    ensures { result ≡ encoded.is_of l.now.types v a }
-{
-    Formula::Sub(Track(a), track_or_first(l.variant_track(v)))
-}
-
-/// No position is a cell of both variants.
-fn are_apart(
-    alloc: Global,
-    l: &Layout<'_>,
-    next: u32,
-    v: VariantId,
-    w: VariantId,
-) -> Result<Formula, AllocError>
-    ensures { IfOk result (λ formula. formula ≡ encoded.are_apart next l.now.types v w) }
-{
-    let both = Formula::and(alloc, is_of(l, v, next), is_of(l, w, next))?;
-    let some = ex1(alloc, next, both)?;
-    Formula::not(alloc, some)
-}
+use tree_formula::are_apart;
+use ws2s_core::Formula;
+use ws2s_forms::and_list;
 
 /// No position is a cell of the variant and of one of the others.
 fn push_apart(

@@ -11,4 +11,5 @@ mod variables;
 mod variants;
 mod whole;
 
+pub use variants::are_apart;
 pub use whole::{well_encoded, well_encoded_from};

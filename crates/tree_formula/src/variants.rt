@@ -11,8 +11,13 @@ use tree_encode::Layout;
 use ws2s_core::Formula;
 use ws2s_forms::ex1;
 
-/// No cell is of both variants.
-fn are_apart(
+/// The formula that no position is a cell of both variants, of one type or of two. Its quantifier binds the track `next`, which
+/// is above all tracks of the layout.
+///
+/// # Errors
+///
+/// Want of memory.
+pub fn are_apart(
     alloc: Global,
     l: &Layout<'_>,
     next: u32,

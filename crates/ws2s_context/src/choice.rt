@@ -10,7 +10,8 @@ ghost use Rattle.ws2s_context.specs.Conjuncts.{IsContext, IsThere};
 
 use crate::context::{Context, members_of, note};
 use crate::facts::Facts;
-use crate::spine::{conjuncts_of, has_step, is_atom, is_single};
+use crate::near::Near;
+use crate::spine::{conjuncts_of, has_step, is_atom};
 use crate::tracks::of_list;
 use std::alloc::{AllocError, Global};
 use std::collections::{HashMap, HashSet};
@@ -37,6 +38,8 @@ pub(crate) struct Choice {
     weighed: HashSet<u32>,
     /// The formula whose parts are rewritten.
     root: FormulaId,
+    /// What is negated under quantifiers, next to them, where atoms alone come into contexts.
+    near: Near,
 }
 
 impl Choice {
@@ -57,10 +60,13 @@ impl Choice {
             taken: HashSet::new(alloc),
             weighed: of_list(alloc, weigh)?,
             root: id,
+            near: Near::new(alloc),
         };
         choice.is_whole = facts.has_stranger(id, &choice.weighed);
         if choice.is_whole {
             choice.follow(alloc, interner, id)?;
+        } else {
+            choice.near.find(alloc, interner, facts)?;
         }
         Ok(choice)
     }
@@ -171,18 +177,24 @@ impl Choice {
         Ok(strangers)
     }
 
-    /// Whether the conjunct is a `Single` atom that comes beside negations of the formula. In a text's own formula those of bound
-    /// tracks don't: alternating quantifiers over pairs of positions took fifty times as long with them.
+    /// Whether the conjunct is a `Single` atom that comes beside the negation of a formula, which was rewritten to another one. In a
+    /// text's own formula that of a bound track does only where no other negation stands between its quantifier and this one:
+    /// alternating quantifiers over pairs of positions took fifty times as long with more of them.
     pub(crate) fn restricts(
         &self,
         interner: &Interner,
         facts: &Facts,
         conjunct: FormulaId,
-        id: FormulaId,
+        negated: FormulaId,
+        to: FormulaId,
     ) -> bool {
-        is_single(interner, conjunct)
-            && facts.is_relevant(conjunct, id)
-            && (self.is_whole || facts.is_relevant(conjunct, self.root))
+        let Some(Node::Single(track)) = interner.form(conjunct) else {
+            return false;
+        };
+        facts.is_relevant(conjunct, to)
+            && (self.is_whole
+                || facts.is_relevant(conjunct, self.root)
+                || self.near.has(track, negated))
     }
 
     /// Whether a context is conjoined under a quantifier of the formula.

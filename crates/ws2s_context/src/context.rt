@@ -143,7 +143,8 @@ pub(crate) fn narrowed(
     Ok(made)
 }
 
-/// What of a context was conjoined inside a formula, and its `Single` atoms that come beside negations of it, where these are few.
+/// What of a context was conjoined inside what a negated formula was rewritten to, and its `Single` atoms that come beside the
+/// negation, where these are few.
 pub(crate) fn used(
     alloc: Global,
     interner: &mut Interner,
@@ -151,6 +152,7 @@ pub(crate) fn used(
     choice: &Choice,
     uses: &Uses,
     context: Context,
+    negated: FormulaId,
     inside: FormulaId,
 ) -> Result<Context, AllocError>
     requires context { IsContext interner.old context }
@@ -162,7 +164,16 @@ pub(crate) fn used(
 {
     let members = members_of(alloc, interner, context)?;
     let mut chosen = Vec::new(alloc);
-    choose_used(&mut chosen, interner, facts, choice, uses, &members, inside)?;
+    choose_used(
+        &mut chosen,
+        interner,
+        facts,
+        choice,
+        uses,
+        &members,
+        negated,
+        inside,
+    )?;
     let made = conjunction_of(alloc, interner, facts, chosen)?;
     Ok(made)
 }
@@ -175,43 +186,49 @@ fn choose_used(
     choice: &Choice,
     uses: &Uses,
     conjuncts: &[FormulaId],
+    negated: FormulaId,
     inside: FormulaId,
 ) -> Result<(), AllocError>
     ensures { OnOk result (IsAmong chosen.old.items conjuncts.now chosen.new.items) }
 {
-    let are_few = are_singles_few(interner, facts, choice, conjuncts, inside);
+    let are_few = are_singles_few(interner, facts, choice, conjuncts, negated, inside);
     for conjunct in conjuncts {
-        if is_used(interner, facts, choice, uses, *conjunct, inside, are_few) {
+        if is_used(
+            interner, facts, choice, uses, *conjunct, negated, inside, are_few,
+        ) {
             chosen.push(*conjunct)?;
         }
     }
     Ok(())
 }
 
-/// Whether a conjunct was conjoined inside a formula, or is one of few `Single` atoms.
+/// Whether a conjunct was conjoined inside what a negated formula was rewritten to, or is one of few `Single` atoms.
 fn is_used(
     interner: &Interner,
     facts: &Facts,
     choice: &Choice,
     uses: &Uses,
     conjunct: FormulaId,
+    negated: FormulaId,
     inside: FormulaId,
     are_few: bool,
 ) -> bool {
-    uses.has(conjunct, inside) || (are_few && choice.restricts(interner, facts, conjunct, inside))
+    uses.has(conjunct, inside)
+        || (are_few && choice.restricts(interner, facts, conjunct, negated, inside))
 }
 
-/// Whether few of the conjuncts are `Single` atoms that come beside negations of the formula.
+/// Whether few of the conjuncts are `Single` atoms that come beside the negation of the formula.
 fn are_singles_few(
     interner: &Interner,
     facts: &Facts,
     choice: &Choice,
     conjuncts: &[FormulaId],
-    id: FormulaId,
+    negated: FormulaId,
+    inside: FormulaId,
 ) -> bool {
     let mut count: u32 = 0;
     for conjunct in conjuncts {
-        if choice.restricts(interner, facts, *conjunct, id) {
+        if choice.restricts(interner, facts, *conjunct, negated, inside) {
             count = count.saturating_add(1);
         }
     }

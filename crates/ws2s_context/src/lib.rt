@@ -11,6 +11,7 @@ mod context;
 mod facts;
 mod machine;
 mod making;
+mod near;
 mod opening;
 mod rewriting;
 mod rewritings;

@@ -170,6 +170,7 @@ fn needed_by(
         &machine.choice,
         &machine.uses,
         context,
+        inner,
         part,
     )
 }

@@ -109,11 +109,6 @@ fn look_for_step(
     Ok(false)
 }
 
-/// Whether the formula says of a track that it has one position.
-pub(crate) fn is_single(interner: &Interner, id: FormulaId) -> bool {
-    matches!(interner.form(id), Some(Node::Single(_)))
-}
-
 /// Whether the formula is a conjunction.
 pub(crate) fn is_conjunction(interner: &Interner, id: FormulaId) -> bool {
     matches!(interner.form(id), Some(Node::And(_, _)))
