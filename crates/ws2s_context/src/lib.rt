@@ -8,6 +8,7 @@
 
 mod choice;
 mod context;
+mod crossing;
 mod facts;
 mod machine;
 mod making;

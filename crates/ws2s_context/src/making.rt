@@ -9,6 +9,7 @@ ghost use Rattle.ws2s_context.specs.Facts.{AreFacts};
 ghost use Rattle.ws2s_context.specs.Going.{IsGoing, IsConjoining, IsNegating, IsQuantifying};
 
 use crate::context::{Context, note, used};
+use crate::crossing::crossed;
 use crate::facts::{Facts, make};
 use crate::machine::Machine;
 use crate::spine::{is_atom, is_conjunction};
@@ -58,6 +59,18 @@ fn note_chain(
     Ok(())
 }
 
+/// A chain with more in front of it is a chain.
+fn note_longer(
+    part: FormulaId,
+    crossed: FormulaId,
+    chains: &mut HashSet<FormulaId>,
+) -> Result<(), AllocError> {
+    if crossed != part {
+        return note(chains, crossed);
+    }
+    Ok(())
+}
+
 /// A negation is made again, beside what it needs of its context.
 pub(crate) fn make_negation(
     alloc: Global,
@@ -76,6 +89,15 @@ pub(crate) fn make_negation(
 {
     let part = machine.rewritings.to(inner);
     let watched = machine.choice.watched(alloc, interner, place.context)?;
+    let crossed = crossed(
+        alloc,
+        interner,
+        facts,
+        &machine.choice,
+        &machine.chains,
+        inner,
+        part,
+    )?;
     let made = negated(
         alloc,
         interner,
@@ -83,8 +105,9 @@ pub(crate) fn make_negation(
         machine,
         place.context,
         inner.id,
-        part,
+        crossed,
     )?;
+    note_longer(part, crossed, &mut machine.chains)?;
     machine.uses.pass_on(&watched, part, made)?;
     machine.rewritings.add(place, made)?;
     Ok(())
@@ -176,7 +199,7 @@ fn needed_by(
 }
 
 /// The conjunction of a context and a formula, where it is wanted; otherwise the formula.
-fn beside_context(
+pub(crate) fn beside_context(
     alloc: Global,
     interner: &mut Interner,
     facts: &mut Facts,
