@@ -32,6 +32,7 @@ fn equal_parts_are_built_once(rt: HostRuntime) -> Result<(), Fail> {
     let f = tower(alloc, 12)?;
     let (found, next) = decided(alloc, &f, true, 10_000)?;
     assert!(rt; found == Found::Tree(1, 1));
-    assert!(rt; next <= number_after(alloc, 200)?);
+    // No easier formula stands for it, so its automata, one for each part at least, are built on this shelf.
+    assert!(rt; number_after(alloc, 13)? <= next && next <= number_after(alloc, 200)?);
     Ok(())
 }
