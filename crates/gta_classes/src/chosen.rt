@@ -13,7 +13,7 @@ pub fn choose(alloc: Global, classes: &[u32], reached: &[bool]) -> Result<Vec<u3
     ensures { IfOk result (λ chosen. AreChosen classes.now reached.now chosen.items) }
 {
     let mut seen = vec![in alloc; false; classes.len()]?;
-    let mut chosen = Vec::new(alloc);
+    let mut chosen = Vec::with_capacity(alloc, reached.len())?;
     for state in 0..reached.len() {
         if reached[state] && !is_marked(&seen, classes[state]) {
             chosen.push(state as u32)?;

@@ -255,19 +255,25 @@ fn look_at(
         .look(lefts, first.rows.as_slice(), second.rows.as_slice())?;
     let rights = numbers[children.1 as usize].as_slice();
     growth.columns.look(rights, first.columns.as_slice(), second.columns.as_slice())?;
-    add_rows(alloc, growth.rows.ones.len(), &mut growth.cells)?;
+    let columns = growth.columns.ones.len();
+    add_rows(alloc, growth.rows.ones.len(), columns, &mut growth.cells)?;
     Ok(())
 }
 
-/// Rows without roots, until there are so many rows.
-fn add_rows(alloc: Global, many: usize, cells: &mut Vec<RefList>) -> Result<(), NoMemory>
+/// Rows without roots, until there are so many rows, with room for a root in each column.
+fn add_rows(
+    alloc: Global,
+    many: usize,
+    columns: usize,
+    cells: &mut Vec<RefList>,
+) -> Result<(), NoMemory>
     requires { length cells.old.items ≤ many }
     ensures many { OnOk result (length cells.new.items ≡ many) }
     ensures rows { OnOk result ((i : ℕ) (roots : List NodeRef) → slice_get cells.new.items i ≡ Some roots →
         (slice_get cells.old.items i ≡ Some roots) ⊎ (roots ≡ [])) }
 {
     for _row in cells.len()..many {
-        cells.push(RefList::new(alloc))?;
+        cells.push(RefList::from_vec(Vec::with_capacity(alloc, columns)?))?;
     }
     Ok(())
 }
@@ -329,7 +335,7 @@ fn join_rows(
 fn counts(alloc: Global, spaces: &Vec<Numbering>) -> Result<Items<u64>, NoMemory>
     ensures { IfOk result (λ counts. counts ≡ map length spaces.now.items) }
 {
-    let mut counts = Items::new(alloc);
+    let mut counts = Items::from_vec(Vec::with_capacity(alloc, spaces.len())?);
     for numbers in spaces {
         counts.push(numbers.len() as u64)?;
     }

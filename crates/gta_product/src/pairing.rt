@@ -116,13 +116,23 @@ fn settle(
         &mut numbers,
         &mut growths,
     )?;
-    let mut roots = RefList::new(alloc);
+    let mut roots = RefList::from_vec(Vec::with_capacity(alloc, many_roots(&growths))?);
     let parts = parts_of(alloc, g, &numbers, &growths, &mut roots)?;
     Ok(Settled {
         numbers,
         parts,
         roots,
     })
+}
+
+/// How many roots all spaces have together, as far as a `usize` counts them.
+fn many_roots(growths: &Vec<Growth>) -> usize {
+    let mut many: usize = 0;
+    for growth in growths {
+        let own = growth.rows.ones.len().saturating_mul(growth.columns.ones.len());
+        many = many.saturating_add(own);
+    }
+    many
 }
 
 /// The initial pair of each space.
@@ -166,7 +176,7 @@ fn joiners(alloc: Global, g: &Guide) -> Result<Vec<Joiner>, NoMemory>
 fn accepting(alloc: Global, a: &Auto, b: &Auto, pairs: &[(u32, u32)]) -> Result<BoolList, NoMemory>
     ensures { IfOk result (λ flags. flags ≡ map (λ pair. is_accepting a.now pair.0 && is_accepting b.now pair.1) pairs.now) }
 {
-    let mut accepting = BoolList::new(alloc);
+    let mut accepting = BoolList::from_vec(Vec::with_capacity(alloc, pairs.len())?);
     for pair in pairs {
         accepting.push(are_accepting(a, b, *pair))?;
     }
@@ -281,7 +291,7 @@ fn count_up(alloc: Global, many: usize) -> Result<Items<u32>, NoMemory>
     if many > u32::MAX as usize {
         return Err(AllocError);
     }
-    let mut numbers = Items::new(alloc);
+    let mut numbers = Items::from_vec(Vec::with_capacity(alloc, many)?);
     for number in 0..many as u32 {
         numbers.push(number)?;
     }

@@ -105,9 +105,9 @@ fn is_full(marks: &[bool]) -> bool
 }
 
 /// Whether all states of each space are marked, so that nothing can be missing.
-fn are_full(reached: &[Items<bool>]) -> bool
-    ensures { result ≡ true → (s q : ℕ) → s < length reached.now → q < length (slice_index_or reached.now s [])
-        → is_reached reached.now s q ≡ true }
+fn are_full(reached: &Vec<Items<bool>>) -> bool
+    ensures { result ≡ true → (s q : ℕ) → s < length reached.now.items → q < length (slice_index_or reached.now.items s [])
+        → is_reached reached.now.items s q ≡ true }
 {
     for s in 0..reached.len() {
         if !is_full(reached[s].as_slice()) {

@@ -4,4 +4,4 @@ use Rattle.gta_reach.specs.Reached.{is_reached}
 use Rattle.gta_reach.proofs.reached.are_full.Given as goal
 
 abbrev pub invariant-loop-s : goal.invariant-loop-s
-invariant-loop-s l = (s q : ℕ) → s < l.s → q < length (slice_index_or l.reached s []) → is_reached l.reached s q ≡ true
+invariant-loop-s l = (s q : ℕ) → s < l.s → q < length (slice_index_or l.reached.items s []) → is_reached l.reached.items s q ≡ true
