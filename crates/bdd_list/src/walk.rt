@@ -159,9 +159,7 @@ pub fn list_nodes(alloc: Global, shelf: &Shelf, roots: &[NodeRef]) -> Result<Lis
     let mut stack = Stack::new(alloc);
     let mut listed = Items::from_vec(Vec::with_capacity(alloc, roots.len())?);
     for index in 0..roots.len() {
-        listed.push(list_from(
-            shelf, roots, index, &mut stack, &mut nodes, &mut memo,
-        )?)?;
+        listed.push(list_from(shelf, roots, index, &mut stack, &mut nodes, &mut memo)?)?;
     }
     Ok(Listing {
         nodes: Items::from_vec(nodes),

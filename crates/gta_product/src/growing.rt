@@ -273,7 +273,8 @@ fn add_rows(
         (slice_get cells.old.items i ≡ Some roots) ⊎ (roots ≡ [])) }
 {
     for _row in cells.len()..many {
-        cells.push(RefList::from_vec(Vec::with_capacity(alloc, columns)?))?;
+        let room = Vec::with_capacity(alloc, columns)?;
+        cells.push(RefList::from_vec(room))?;
     }
     Ok(())
 }

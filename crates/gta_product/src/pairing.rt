@@ -129,7 +129,11 @@ fn settle(
 fn many_roots(growths: &Vec<Growth>) -> usize {
     let mut many: usize = 0;
     for growth in growths {
-        let own = growth.rows.ones.len().saturating_mul(growth.columns.ones.len());
+        let own = growth
+            .rows
+            .ones
+            .len()
+            .saturating_mul(growth.columns.ones.len());
         many = many.saturating_add(own);
     }
     many

@@ -109,8 +109,8 @@ fn are_full(reached: &Vec<Items<bool>>) -> bool
     ensures { result ≡ true → (s q : ℕ) → s < length reached.now.items → q < length (slice_index_or reached.now.items s [])
         → is_reached reached.now.items s q ≡ true }
 {
-    for s in 0..reached.len() {
-        if !is_full(reached[s].as_slice()) {
+    for marks in reached {
+        if !is_full(marks.as_slice()) {
             return false;
         }
     }
