@@ -1,0 +1,9 @@
+use Rattle.ws2s_network.proofs.NetworkLemmas.{IsEliminated-and, IsEliminated-alone, IsEliminated-same}
+use Rattle.ws2s_network.proofs.laws.tracks_are_eliminated_by_their_conjuncts.Goals as goal
+
+pub returns : goal.returns
+returns c = record {
+  conjunction = IsEliminated-and;
+  alone = IsEliminated-alone;
+  same = IsEliminated-same;
+}
