@@ -1,9 +1,9 @@
 -- On functions of labels with all tracks but one fixed.
-use Rattle.std.proofs.Common.{◌≡◌, ℕ, suc, ◌+◌, ◌<◌, ◌≤◌, Bool, true, false, if◌then◌else◌, List, [], ◌∷◌, ◌++◌, length, slice_index_or, inl, inr}
+use Rattle.std.proofs.Common.{◌≡◌, ℕ, suc, ◌+◌, ◌<◌, ◌≤◌, Bool, true, false, if◌then◌else◌, List, [], ◌∷◌, ◌++◌, length, slice_index_or, slice_index, ◌*◌, inl, inr}
 use Rattle.std.proofs.Common.{refl, sym, ap, subst, ◌∙◌, arith, length-append}
 use Rattle.std.proofs.Math.Seq.{get_or-append_seam}
 use Rattle.std.proofs.lemmas.Bool.{cases_lt}
-use Rattle.std.proofs.lemmas.List.{get_or_append_left}
+use Rattle.std.proofs.lemmas.List.{get_or_append_left, get_or_past}
 use Rattle.labels.specs.Labels.{Label}
 use Rattle.bdd_list.specs.declared.listing.Listed.{Listed}
 use Rattle.bdd_list.specs.declared.listing.Listed.TheVariants.{Leaf, Inner}
@@ -11,8 +11,10 @@ use Rattle.bdd_list.specs.declared.listing.ListedNode.{ListedNode}
 use Rattle.bdd_list.specs.declared.listing.Listing.{Listing}
 use Rattle.bdd_list.specs.Listing.{function_of, function_in, node_at, rank, IsIn, IsSide, AreOrdered}
 use Rattle.bdd_list.proofs.ListingLemmas.{function_in-leaf, function_in-inner}
+use Rattle.gta_reach.specs.declared.form.FormSpace.{FormSpace}
+use Rattle.gta_reach.specs.Form.{cell_in, step_in}
 use Rattle.ws2s_core.specs.declared.track.Track.{Track}
-use Rattle.gta_complete.specs.Fixed.{label_with, root_of, fixed_node, IsFixed, AreFixed}
+use Rattle.gta_complete.specs.Fixed.{label_with, root_of, fixed_node, IsFixed, AreFixed, IsFixedSpace}
 
 -- a node that was come to, read off a list that is the listing's
 module _ (nodes xs : List ListedNode) (same : xs ≡ nodes) (ordered : AreOrdered nodes) (at : Listed) (i : ℕ) (is : at ≡ Inner i)
@@ -142,3 +144,27 @@ module _ (listing : Listing) (known : List Track) (t : ℕ) where
       };
       function = λ k label below. ap (λ (x : Listed). function_in nodes x label) (are.root k below) ∙ of_node k label below;
     }
+
+-- ---- steps
+
+-- functions past the end are the same too
+function-fixed : (listing : Listing) (known : List Track) (t : ℕ) (fixed : Listing) → IsFixed listing known t fixed → (k : ℕ) (label : Label) →
+    function_of fixed (root_of fixed k) label ≡ function_of listing (root_of listing k) (label_with known t (label t))
+function-fixed listing known t fixed are k label = elim (cases_lt k (length listing.roots)) [
+  | inl before ↦ are.function k label before
+  | inr past ↦
+      let m = are.many in
+      ap (λ (x : Listed). function_in fixed.nodes x label) (get_or_past fixed.roots k (Leaf 0) (omega (arith, past, m)))
+      ∙ function_in-leaf fixed.nodes 0 label ∙ sym (function_in-leaf listing.nodes 0 (label_with known t (label t)))
+      ∙ sym (ap (λ (x : Listed). function_in listing.nodes x (label_with known t (label t))) (get_or_past listing.roots k (Leaf 0) past))
+]
+
+-- the step of a fixed space is the space's on the label with the tracks
+pub step-fixed : (space : FormSpace) (known : List Track) (t initial : ℕ) (children : ℕ × ℕ) (fixed : FormSpace) →
+    IsFixedSpace space known t initial children fixed → (l r : ℕ) (label : Label) →
+    step_in fixed l r label ≡ step_in space l r (label_with known t (label t))
+step-fixed space known t initial children fixed are l r label =
+    let same : cell_in fixed l r ≡ cell_in space l r =
+    (λ i. slice_index (are.cells i) (slice_index (are.rows i) l * are.width i + slice_index (are.columns i) r)) in
+    ap (λ (k : ℕ). function_of fixed.listing (root_of fixed.listing k) label) same
+    ∙ function-fixed space.listing known t fixed.listing are.listing (cell_in space l r) label

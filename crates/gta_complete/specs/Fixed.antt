@@ -6,6 +6,7 @@ use Rattle.bdd_list.specs.declared.listing.Listed.TheVariants.{Leaf, Inner}
 use Rattle.bdd_list.specs.declared.listing.ListedNode.{ListedNode}
 use Rattle.bdd_list.specs.declared.listing.Listing.{Listing}
 use Rattle.bdd_list.specs.Listing.{function_of, node_at, IsIn, AreOrdered}
+use Rattle.gta_reach.specs.declared.form.FormSpace.{FormSpace}
 use Rattle.ws2s_core.specs.declared.track.Track.{Track}
 use Rattle.ws2s_theory.specs.Trees.{label_of}
 
@@ -43,3 +44,14 @@ pub record AreFixed (listing : Listing) (known : List Track) (t : ℕ) (nodes : 
   pub many_roots : length roots ≡ n
   pub node : (k : ℕ) → k < n → node_at nodes k ≡ fixed_node listing (root_of listing k) known t
   pub root : (k : ℕ) → k < n → slice_index_or roots k (Leaf 0) ≡ Inner k
+
+-- the space with such functions, another initial state and other children
+pub record IsFixedSpace (space : FormSpace) (known : List Track) (t initial : ℕ) (children : ℕ × ℕ) (fixed : FormSpace) : Type 0 where
+  pub states : fixed.states ≡ space.states
+  pub initial_is : fixed.initial ≡ initial
+  pub children_are : fixed.children ≡ children
+  pub listing : IsFixed space.listing known t fixed.listing
+  pub rows : fixed.rows ≡ space.rows
+  pub columns : fixed.columns ≡ space.columns
+  pub width : fixed.width ≡ space.width
+  pub cells : fixed.cells ≡ space.cells

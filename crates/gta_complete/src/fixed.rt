@@ -3,9 +3,10 @@
 ghost use Rattle.std.specs.Prelude.{◌≡◌, IfOk};
 ghost use Rattle.bdd_list.specs.Listing.{function_of, IsIn, AreOrdered};
 ghost use Rattle.ws2s_theory.specs.Trees.{label_of};
-ghost use Rattle.gta_complete.specs.Fixed.{label_with, fixed_node, IsOrderly, IsFixed};
+ghost use Rattle.gta_complete.specs.Fixed.{label_with, fixed_node, IsOrderly, IsFixed, IsFixedSpace};
 
 use bdd_list::{Listed, ListedNode, Listing};
+use gta_reach::FormSpace;
 use plain_data::Items;
 use std::alloc::{AllocError, Global};
 use ws2s_core::Track;
@@ -94,4 +95,36 @@ fn fixed_node(listing: &Listing, root: Listed, known: &[Track], t: Track) -> Lis
         low: Listed::Leaf(state_on(listing, root, known, t, false)),
         high: Listed::Leaf(state_on(listing, root, known, t, true)),
     }
+}
+
+/// The space with its functions on labels that have the tracks, and the one track as it is, with another initial state and other children.
+///
+/// # Errors
+///
+/// Want of memory; also where the space has 2^32 functions or more.
+pub(crate) fn fixed_space(
+    alloc: Global,
+    space: &FormSpace,
+    known: &[Track],
+    t: Track,
+    initial: u32,
+    children: (u32, u32),
+) -> Result<FormSpace, AllocError>
+    requires { IsOrderly space.now.listing }
+    ensures { IfOk result (IsFixedSpace space.now known.now t.0 initial children) }
+{
+    let listing = fixed_listing(alloc, &space.listing, known, t)?;
+    let rows = Items::from_slice(alloc, space.rows.as_slice())?;
+    let columns = Items::from_slice(alloc, space.columns.as_slice())?;
+    let cells = Items::from_slice(alloc, space.cells.as_slice())?;
+    Ok(FormSpace {
+        states: space.states,
+        initial,
+        children,
+        listing,
+        rows,
+        columns,
+        width: space.width,
+        cells,
+    })
 }

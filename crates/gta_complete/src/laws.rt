@@ -6,6 +6,9 @@ ghost use Rattle.gta_theory.specs.Guides.{Spaces, IsGuide};
 ghost use Rattle.gta_theory.specs.Automata.{Automaton, IsStable, Accepts, value};
 ghost use Rattle.ws2s_core.specs.declared.label_tree.TreeNode.{TreeNode};
 ghost use Rattle.ws2s_core.specs.LabelTrees.{assignment_of, IsTree};
+ghost use Rattle.gta_reach.specs.declared.form.Form.{Form};
+ghost use Rattle.gta_reach.specs.Form.{guide_of, automaton_of};
+ghost use Rattle.gta_complete.specs.AlongForms.{IsAlongForm};
 ghost use Rattle.gta_complete.specs.Along.{AreInSpaces, RunsAlong};
 
 /// What an automaton that runs along the tree has as the value of an assignment of the one track, the automaton has of the tree with that
@@ -26,4 +29,10 @@ pub fn automata_along_trees_accept_completions()
     ensures accepted { (g : Spaces) (A : Automaton ℕ) (nodes : List TreeNode) (space : ℕ → ℕ) (t : ℕ) (h : Spaces) (B : Automaton ℕ) (n : ℕ) (a : Assignment) →
         IsGuide g → IsStable g A → IsTree nodes → AreInSpaces g nodes space → RunsAlong g A nodes space t h B → Covers n a →
         Accepts h B a ↔ Accepts g A (replace (assignment_of nodes) t (a t)) }
+{}
+
+/// A form that is put together along the tree runs along it.
+pub fn forms_along_trees_run_along_them()
+    ensures { (form : Form) (nodes : List TreeNode) (space : ℕ → ℕ) (t : ℕ) (along : Form) → AreInSpaces (guide_of form) nodes space →
+        IsAlongForm form nodes space t along → RunsAlong (guide_of form) (automaton_of form) nodes space t (guide_of along) (automaton_of along) }
 {}

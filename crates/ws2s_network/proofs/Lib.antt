@@ -1,2 +1,3 @@
 pub mod NetworkLemmas
 pub mod SplitLemmas
+pub mod VerdictLemmas

@@ -1,7 +1,8 @@
 -- Networks of constraints: tracks without weight are eliminated one after the other, each from the conjuncts that have it, and their
 -- values are found afterwards, the last one first. (Dechter 1999, Bucket elimination: a unifying framework for reasoning.)
-use Rattle.std.specs.Prelude.{◌≡◌, ℕ, List, [], ◌∷◌, Contains}
-use Rattle.gta_theory.specs.Assignments.{Position, PositionSet, Assignment, IsFinite, IsFiniteSet, replace}
+use Rattle.std.specs.Prelude.{◌≡◌, ℕ, ◌≤◌, List, [], ◌∷◌, Contains}
+use Rattle.gta_theory.specs.Assignments.{Position, PositionSet, Assignment, IsFinite, IsFiniteSet, Covers, replace}
+use Rattle.gta_theory.specs.Weights.{weight}
 use Rattle.ws2s_core.specs.declared.formula.Formula.{Formula}
 use Rattle.ws2s_core.specs.Satisfaction.{WSat, Same}
 
@@ -39,3 +40,11 @@ IsCompleted (one ∷ others) a b = (c : Assignment) × IsCompleted others a c ×
 pub record IsSplit (f : Formula) (alternatives : List Formula) : Type 0 where
   pub some : (a : Assignment) → IsFinite a → WSat f a → (g : Formula) × Contains alternatives g × WSat g a
   pub each : (g : Formula) (a : Assignment) → Contains alternatives g → IsFinite a → WSat g a → WSat f a
+
+-- nothing satisfies the formula
+abbrev pub HasNoModel : Formula → Type 0
+HasNoModel f = (n : ℕ) (a : Assignment) → Covers n a → WSat f a → ⊥
+
+-- nothing that satisfies the formula has fewer positions on the tracks
+abbrev pub IsBound : List ℕ → Formula → ℕ → Type 0
+IsBound weighed f w = (n : ℕ) (a : Assignment) → Covers n a → WSat f a → w ≤ weight weighed n a

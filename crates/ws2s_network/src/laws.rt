@@ -9,7 +9,7 @@ ghost use Rattle.ws2s_core.specs.declared.formula.Formula.TheVariants.{And, Not,
 ghost use Rattle.ws2s_core.specs.Satisfaction.{WSat, Same};
 ghost use Rattle.ws2s_core.specs.Tracks.{IsFree, renamed, exchanged};
 ghost use Rattle.ws2s_theory.specs.Contexts.{IsLightestOf};
-ghost use Rattle.ws2s_network.specs.Network.{IsEliminated, AreEliminated, IsCompleted, IsFilledIn, IsSplit};
+ghost use Rattle.ws2s_network.specs.Network.{IsEliminated, AreEliminated, IsCompleted, IsFilledIn, IsSplit, HasNoModel, IsBound};
 
 /// A track is eliminated by the conjunction of what has it: that is quantified, and what hasn't the track free stays as it is. Which of
 /// the formulas with the same satisfying assignments is taken doesn't matter.
@@ -59,4 +59,26 @@ pub fn disjunctions_are_split()
 pub fn quantifiers_are_opened_under_fresh_tracks()
     ensures { (weighed : List ℕ) (t u : Track) (f g : Formula) (w : ℕ) → (¬ IsFree u.0 f) → (¬ IsFree u.0 g) → (¬ Contains weighed u.0) →
         IsLightestOf weighed (And f (Ex2 t g)) w ↔ IsLightestOf weighed (And f (renamed (exchanged t.0 u.0) g)) w }
+{}
+
+/// What is said of what is left is said of the formula: that nothing satisfies it, and that nothing weighs less; and with values of the
+/// tracks that were eliminated what satisfies it is a model of the formula that weighs as much.
+pub fn verdicts_are_those_of_what_is_left()
+    ensures none { (weighed : List ℕ) (gone : List (ℕ × Formula)) (f rest : Formula) → AreEliminated weighed gone f rest → HasNoModel rest →
+        HasNoModel f }
+    ensures bound { (weighed : List ℕ) (gone : List (ℕ × Formula)) (f rest : Formula) (w : ℕ) → AreEliminated weighed gone f rest →
+        IsBound weighed rest w → IsBound weighed f w }
+    ensures model { (weighed : List ℕ) (gone : List (ℕ × Formula)) (f rest : Formula) (n m : ℕ) (a b : Assignment) →
+        AreEliminated weighed gone f rest → Covers n a → WSat rest a → IsCompleted gone a b → Covers m b →
+        WSat f b × (weight weighed m b ≡ weight weighed n a) }
+{}
+
+/// What is said of each alternative is said of the formula, and a model of an alternative is one of the formula.
+pub fn verdicts_are_those_of_alternatives()
+    ensures none { (f : Formula) (alternatives : List Formula) → IsSplit f alternatives →
+        ((g : Formula) → Contains alternatives g → HasNoModel g) → HasNoModel f }
+    ensures bound { (weighed : List ℕ) (f : Formula) (alternatives : List Formula) (w : ℕ) → IsSplit f alternatives →
+        ((g : Formula) → Contains alternatives g → IsBound weighed g w) → IsBound weighed f w }
+    ensures model { (f g : Formula) (alternatives : List Formula) (n : ℕ) (a : Assignment) → IsSplit f alternatives → Contains alternatives g →
+        Covers n a → WSat g a → WSat f a }
 {}
