@@ -1,20 +1,18 @@
 -- On forms along a tree.
-use Rattle.std.proofs.Common.{◌≡◌, ℕ, suc, ◌+◌, ◌-◌, ◌<◌, Bool, false, List, [], length, slice_get, slice_index_or, Option, Some, None}
-use Rattle.std.proofs.Common.{refl, sym, ap, subst, ◌∙◌, arith}
+use Rattle.std.proofs.Common.{◌≡◌, ℕ, suc, ◌+◌, ◌-◌, Bool, false, List, [], length, slice_get, slice_index_or, Some}
+use Rattle.std.proofs.Common.{refl, sym, ap, ◌∙◌, arith}
 use Rattle.labels.specs.Labels.{Label, empty_label, with_track}
 use Rattle.bdd_list.proofs.WaitsLemmas.{slice_get-total}
-use Rattle.gta_theory.specs.Guides.{Spaces, IsSpace, left, right}
-use Rattle.gta_theory.specs.Automata.{Automaton}
+use Rattle.gta_theory.specs.Guides.{Spaces, IsSpace}
 use Rattle.gta_reach.specs.declared.form.FormSpace.{FormSpace}
 use Rattle.gta_reach.specs.declared.form.Form.{Form}
-use Rattle.gta_reach.specs.Form.{step_in, guide_of, initial_of, automaton_of}
+use Rattle.gta_reach.specs.Form.{guide_of, automaton_of}
 use Rattle.gta_reach.proofs.ReachLemmas.{left-at, right-at, initial-at, step-at, many_spaces, initial-form}
-use Rattle.ws2s_core.specs.declared.track.Track.{Track}
 use Rattle.ws2s_core.specs.declared.label_tree.TreeNode.{TreeNode}
 use Rattle.ws2s_theory.specs.Trees.{label_of}
 use Rattle.gta_complete.specs.Along.{along_space, AreInSpaces, RunsAlong}
-use Rattle.gta_complete.specs.AlongForms.{state_without, IsNodeSpace, IsSpaceBelow, IsAlongForm}
-use Rattle.gta_complete.specs.Fixed.{label_with, IsFixedSpace}
+use Rattle.gta_complete.specs.AlongForms.{state_without, IsAlongForm}
+use Rattle.gta_complete.specs.Fixed.{label_with}
 use Rattle.gta_complete.proofs.FixedLemmas.{step-fixed}
 
 accepting-form : (form : Form) (q : ℕ) → (automaton_of form).accepting q ≡ slice_index_or form.accepting q false
@@ -30,11 +28,11 @@ module _ (form : Form) (nodes : List TreeNode) (space : ℕ → ℕ) (in_spaces 
   many = length nodes
 
   -- the space that a node stands in
-  from-node : (k : ℕ) (node : TreeNode) → slice_get nodes k ≡ Some node → (from : FormSpace) × (slice_get form.spaces (space k) ≡ Some from)
+  pub from-node : (k : ℕ) (node : TreeNode) → slice_get nodes k ≡ Some node → (from : FormSpace) × (slice_get form.spaces (space k) ≡ Some from)
   from-node k node at =
       slice_get-total form.spaces (space k) (let e = many_spaces form in let inside = in_spaces.inside k node at in omega (arith, e, inside))
 
-  from-space : (s : ℕ) → IsSpace g s → (from : FormSpace) × (slice_get form.spaces s ≡ Some from)
+  pub from-space : (s : ℕ) → IsSpace g s → (from : FormSpace) × (slice_get form.spaces s ≡ Some from)
   from-space s there = slice_get-total form.spaces s (let e = many_spaces form in omega (arith, e, there))
 
   no_label : label_of [] ≡ empty_label

@@ -1,6 +1,6 @@
 -- On automata along a tree.
 use Rattle.std.proofs.Common.{◌≡◌, ℕ, zero, suc, ◌+◌, ◌-◌, ◌<◌, Bool, true, false, cond, eqb, List, [], length, slice_get, Option, Some, None, IfSome}
-use Rattle.std.proofs.Common.{refl, sym, ap, subst, ◌∙◌, arith, ◌↔◌, IsTrue, ◌⊎◌, inl, inr, ◌≤◌, max}
+use Rattle.std.proofs.Common.{refl, sym, ap, subst, ◌∙◌, arith, ◌↔◌, ◌⊎◌, inl, inr, ◌≤◌, max}
 use Rattle.std.proofs.lemmas.Bool.{cases_lt}
 use Rattle.std.proofs.lemmas.Option.{slice_get_within}
 use Rattle.bdd_list.proofs.WaitsLemmas.{slice_get-total}
@@ -57,10 +57,10 @@ module _ (g : Spaces) (guide : IsGuide g) (A : Automaton ℕ) (stable : IsStable
       runs.initial_node k node at ∙ ap (λ (v : ℕ). value g A v many (replace (assignment_at nodes k) t no_positions)) stands.1
 
   -- one step down
-  left-space : (k : ℕ) (node : TreeNode) → slice_get nodes k ≡ Some node → StandsIn (left g (space k)) node.left
+  pub left-space : (k : ℕ) (node : TreeNode) → slice_get nodes k ≡ Some node → StandsIn (left g (space k)) node.left
   left-space k node at = below-many k node node.left (left g (space k)) at (tree.left_before k node at) (in_spaces.at_left k node at)
 
-  right-space : (k : ℕ) (node : TreeNode) → slice_get nodes k ≡ Some node → StandsIn (right g (space k)) node.right
+  pub right-space : (k : ℕ) (node : TreeNode) → slice_get nodes k ≡ Some node → StandsIn (right g (space k)) node.right
   right-space k node at = below-many k node node.right (right g (space k)) at (tree.right_before k node at) (in_spaces.at_right k node at)
 
   -- the value of the one track along the tree is the automaton's of the tree with the track
@@ -107,11 +107,11 @@ module _ (g : Spaces) (guide : IsGuide g) (A : Automaton ℕ) (stable : IsStable
       ∙ ap (λ (v : ℕ). value g A v (suc n) (replace here t (a t))) stands.1
 
   -- the root
-  root-stands : (n : ℕ) → n ≡ many → StandsIn 0 (last_place 0 n)
+  pub root-stands : (n : ℕ) → n ≡ many → StandsIn 0 (last_place 0 n)
   root-stands zero is = tt
   root-stands (suc n) is = (omega (arith, is), in_spaces.root (0 + n) (omega (arith, is)))
 
-  root-space : (n : ℕ) → n ≡ many → along_space many 0 (last_place 0 n) ≡ 0
+  pub root-space : (n : ℕ) → n ≡ many → along_space many 0 (last_place 0 n) ≡ 0
   root-space zero is = omega (arith, is)
   root-space (suc n) is = omega (arith, is)
 
@@ -130,7 +130,7 @@ module _ (g : Spaces) (guide : IsGuide g) (A : Automaton ℕ) (stable : IsStable
   sp k = many - suc k
 
   -- a space is that of a node, or one of the automaton's behind them
-  space-cases : (s : ℕ) → IsSpace h s →
+  pub space-cases : (s : ℕ) → IsSpace h s →
       ((k : ℕ) × (node : TreeNode) × (slice_get nodes k ≡ Some node) × (sp k ≡ s)) ⊎ ((u : ℕ) × IsSpace g u × (many + u ≡ s))
   space-cases s there = elim (cases_lt s many) [
     | inl before ↦

@@ -1,3 +1,4 @@
 pub mod FixedLemmas
 pub mod AlongLemmas
 pub mod AlongFormsLemmas
+pub mod IsFormLemmas

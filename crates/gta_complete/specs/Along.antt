@@ -2,7 +2,7 @@
 -- behind them the spaces of the automaton. Its assignments are those of the one track.
 use Rattle.std.specs.Prelude.{◌≡◌, ℕ, suc, ◌+◌, ◌-◌, List, length, slice_get, Option, Some, None, IfSome}
 use Rattle.labels.specs.Labels.{Label, empty_label, with_track}
-use Rattle.gta_theory.specs.Assignments.{Assignment, no_positions, replace}
+use Rattle.gta_theory.specs.Assignments.{no_positions, replace}
 use Rattle.gta_theory.specs.Guides.{Spaces, IsSpace, left, right}
 use Rattle.gta_theory.specs.Automata.{Automaton, value}
 use Rattle.ws2s_core.specs.declared.label_tree.TreeNode.{TreeNode}

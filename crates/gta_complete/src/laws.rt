@@ -7,7 +7,7 @@ ghost use Rattle.gta_theory.specs.Automata.{Automaton, IsStable, Accepts, value}
 ghost use Rattle.ws2s_core.specs.declared.label_tree.TreeNode.{TreeNode};
 ghost use Rattle.ws2s_core.specs.LabelTrees.{assignment_of, IsTree};
 ghost use Rattle.gta_reach.specs.declared.form.Form.{Form};
-ghost use Rattle.gta_reach.specs.Form.{guide_of, automaton_of};
+ghost use Rattle.gta_reach.specs.Form.{guide_of, automaton_of, IsForm};
 ghost use Rattle.gta_complete.specs.AlongForms.{IsAlongForm};
 ghost use Rattle.gta_complete.specs.Along.{AreInSpaces, RunsAlong};
 
@@ -35,4 +35,10 @@ pub fn automata_along_trees_accept_completions()
 pub fn forms_along_trees_run_along_them()
     ensures { (form : Form) (nodes : List TreeNode) (space : ℕ → ℕ) (t : ℕ) (along : Form) → AreInSpaces (guide_of form) nodes space →
         IsAlongForm form nodes space t along → RunsAlong (guide_of form) (automaton_of form) nodes space t (guide_of along) (automaton_of along) }
+{}
+
+/// And it is a form.
+pub fn forms_along_trees_are_forms()
+    ensures { (form : Form) (nodes : List TreeNode) (space : ℕ → ℕ) (t : ℕ) (along : Form) → IsForm form → IsTree nodes →
+        AreInSpaces (guide_of form) nodes space → IsAlongForm form nodes space t along → IsForm along }
 {}

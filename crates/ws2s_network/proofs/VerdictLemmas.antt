@@ -1,5 +1,5 @@
 -- On verdicts by what is left, and by alternatives.
-use Rattle.std.proofs.Common.{◌≡◌, ℕ, ◌≤◌, max, List, ◌∷◌, Contains, sym, ap, subst, ◌∙◌, arith}
+use Rattle.std.proofs.Common.{◌≡◌, ℕ, max, List, Contains, ◌∙◌, arith}
 use Rattle.gta_theory.specs.Assignments.{Assignment, Covers}
 use Rattle.gta_theory.specs.Weights.{weight}
 use Rattle.gta_theory.proofs.AssignmentsLemmas.{Covers-more, Covers-finite}
@@ -22,8 +22,7 @@ module _ (weighed : List ℕ) (gone : List (ℕ × Formula)) (f rest : Formula) 
       let k : ℕ = max n m in
       let both = IsCompleted-satisfies weighed gone f rest a b are (Covers-finite n a in_n) sat completed in
       let b_k : Covers k b = Covers-more m k b (omega arith) in_m in
-      let a_k : Covers k a = Covers-more n k a (omega arith) in_n in
-      (
+      let a_k : Covers k a = Covers-more n k a (omega arith) in_n in (
         both.1,
         weight-same weighed m k b in_m b_k ∙ IsCompleted-weight weighed gone f rest a b k are completed ∙ weight-same weighed k n a a_k in_n,
       )

@@ -1,9 +1,9 @@
 -- The way from a root to a leaf.
-use Rattle.std.proofs.Common.{◌≡◌, ℕ, suc, ◌<◌, ◌≤◌, Bool, true, false, List, length, slice_index_or, refl, sym, ap, subst, ◌∙◌, arith}
+use Rattle.std.proofs.Common.{◌<◌, List, length, refl, sym, ap, subst, ◌∙◌}
 use Rattle.labels.specs.Labels.{Label}
 use Rattle.bdd_list.specs.declared.listing.Listed.{Listed}
 use Rattle.bdd_list.specs.declared.listing.ListedNode.{ListedNode}
-use Rattle.bdd_list.specs.Listing.{function_of, function_in, IsIn, AreOrdered, rank}
+use Rattle.bdd_list.specs.Listing.{function_in}
 use Rattle.bdd_list.proofs.ListingLemmas.{function_in-leaf}
 use Rattle.gta_complete.specs.Fixed.{label_with}
 use Rattle.gta_complete.proofs.FixedLemmas.{index-inside, high-smaller, low-smaller, high-preserved, low-preserved}

@@ -1,4 +1,4 @@
-use Rattle.std.proofs.Common.{◌≡◌, ℕ}
+use Rattle.std.proofs.Common.{◌≡◌}
 use Rattle.bdd_list.specs.Listing.{function_of, IsIn, rank}
 use Rattle.gta_complete.specs.Fixed.{label_with}
 use Rattle.gta_complete.proofs.fixed.state_on.Given as goal
