@@ -13,6 +13,12 @@ abbrev pub along_space : ℕ → ℕ → Option ℕ → ℕ
 along_space many s None = many + s
 along_space many s (Some k) = many - suc k
 
+-- the node at the place stands in a space of the guide, and its children in the children of that
+pub record IsInSpaces (g : Spaces) (space : ℕ → ℕ) (k : ℕ) (node : TreeNode) : Type 0 where
+  pub inside : IsSpace g (space k)
+  pub at_left : IfSome node.left (λ j. space j ≡ left g (space k))
+  pub at_right : IfSome node.right (λ j. space j ≡ right g (space k))
+
 -- the nodes stand in spaces of the guide: the root, which is the last one, in space 0, and children in those of their parents' children
 pub record AreInSpaces (g : Spaces) (nodes : List TreeNode) (space : ℕ → ℕ) : Type 0 where
   pub inside : (k : ℕ) (node : TreeNode) → slice_get nodes k ≡ Some node → IsSpace g (space k)

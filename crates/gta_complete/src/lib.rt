@@ -3,3 +3,4 @@
 
 mod fixed;
 pub mod laws;
+mod spaces;
