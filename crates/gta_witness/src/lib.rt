@@ -6,12 +6,16 @@
 //! `specs/Rules.antt` has the rules by which weights are found.
 #![tactic(auto)]
 
+mod complete;
 mod expand;
+mod fixed;
 mod goal;
 mod grow;
 mod lightest;
 mod read;
 mod relax;
 mod search;
+mod union;
 
+pub use complete::complete;
 pub use lightest::least;

@@ -31,7 +31,7 @@ fn numbers_of(alloc: Global, tracks: &[Track]) -> Result<HashSet<u32>, NoMemory>
 }
 
 /// A lightest tree of a form.
-fn least_of(
+pub(crate) fn least_of(
     alloc: Global,
     form: &Form,
     weigh: &[Track],

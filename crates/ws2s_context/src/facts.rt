@@ -19,25 +19,25 @@ const MANY_TRACKS: usize = 256;
 
 /// What is known of a formula.
 #[derive(Drop)]
-pub(crate) struct Fact {
-    pub(crate) id: FormulaId,
+pub struct Fact {
+    pub id: FormulaId,
     /// The numbers of its free tracks.
-    pub(crate) tracks: HashSet<u32>,
+    pub tracks: HashSet<u32>,
     /// How many nodes it has as a tree, or the greatest number where it has more.
     size: u32,
 }
 
 /// What is known of the parts of a formula. Nothing is known of those with too many free tracks.
 #[derive(Drop)]
-pub(crate) struct Facts {
-    pub(crate) facts: Vec<Fact>,
+pub struct Facts {
+    pub facts: Vec<Fact>,
     /// Where the fact about a formula stands.
     places: HashMap<FormulaId, usize>,
 }
 
 impl Facts {
     /// What is known of all parts of a formula.
-    pub(crate) fn of_parts(
+    pub fn of_parts(
         alloc: Global,
         interner: &Interner,
         id: FormulaId,
@@ -57,7 +57,7 @@ impl Facts {
     }
 
     /// What is known of a formula.
-    pub(crate) fn get(&self, id: FormulaId) -> Option<&Fact>
+    pub fn get(&self, id: FormulaId) -> Option<&Fact>
         ensures id { IfSome result (λ fact. fact.now.id ≡ id) }
         ensures fact { IfSome result (λ fact. (formulas : List Formula) → AreFacts formulas self.now.facts.items → IsFact formulas fact.now) }
     {
@@ -94,7 +94,7 @@ impl Facts {
     }
 
     /// How many nodes the formula has as a tree, or the greatest number where it has more or that isn't known.
-    pub(crate) fn size(&self, id: FormulaId) -> u32 {
+    pub fn size(&self, id: FormulaId) -> u32 {
         match self.get(id) {
             Some(fact) => fact.size,
             None => u32::MAX,
@@ -191,7 +191,7 @@ impl Facts {
     }
 
     /// Whether the track is known not to be free in the formula.
-    pub(crate) fn lacks(&self, id: FormulaId, t: Track) -> bool
+    pub fn lacks(&self, id: FormulaId, t: Track) -> bool
         ensures { result ≡ true → (formulas : List Formula) → AreFacts formulas self.now.facts.items →
             IsFree t.0 (formula_of formulas id) → ⊥ }
     {
@@ -202,7 +202,7 @@ impl Facts {
     }
 
     /// Whether there are numbers, and the formula has a free track that isn't among them, as far as known.
-    pub(crate) fn has_stranger(&self, id: FormulaId, tracks: &HashSet<u32>) -> bool {
+    pub fn has_stranger(&self, id: FormulaId, tracks: &HashSet<u32>) -> bool {
         match self.get(id) {
             Some(fact) => !tracks.is_empty() && !is_within(&fact.tracks, tracks),
             None => false,
@@ -210,7 +210,7 @@ impl Facts {
     }
 
     /// Whether the conjunct has free tracks, all of which are free in the formula, as far as known.
-    pub(crate) fn is_relevant(&self, conjunct: FormulaId, id: FormulaId) -> bool {
+    pub fn is_relevant(&self, conjunct: FormulaId, id: FormulaId) -> bool {
         match (self.get(conjunct), self.get(id)) {
             (Some(c), Some(f)) => !c.tracks.is_empty() && is_within(&c.tracks, &f.tracks),
             (_, None) => true,
@@ -220,7 +220,7 @@ impl Facts {
 }
 
 /// The number of the node's formula, of which is found what can be known of it.
-pub(crate) fn make(
+pub fn make(
     alloc: Global,
     interner: &mut Interner,
     facts: &mut Facts,

@@ -47,7 +47,7 @@ impl FirstWay {
     /// # Errors
     ///
     /// Want of memory; the room isn't open then.
-    fn open(&mut self, alloc: Global, limit: u32) -> Result<(), NoMemory>
+    pub(crate) fn open(&mut self, alloc: Global, limit: u32) -> Result<(), NoMemory>
         requires { limit ≤ 16000000 }
         ensures { (formulas : List Formula) → IsReady formulas self.old → IsReady formulas self.new }
     {

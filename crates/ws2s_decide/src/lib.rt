@@ -11,6 +11,7 @@ mod deciding;
 mod first_way;
 mod machine;
 mod making;
+mod network_way;
 mod task;
 mod uses;
 mod verdict;

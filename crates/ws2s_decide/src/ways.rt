@@ -13,6 +13,7 @@ ghost use Rattle.ws2s_decide.specs.Own.{IsReady};
 
 use crate::deciding::verdict_of;
 use crate::first_way::FirstWay;
+use crate::network_way::{mode_of, verdict_by_networks};
 use crate::verdict::Verdict;
 use crate::way::Way;
 use bdd_nodes::Shelf;
@@ -134,6 +135,14 @@ pub(crate) fn decide_number(
         stops_early: true,
         once,
     };
+    let mode = mode_of(shelf.limit());
+    if mode.is_on {
+        match verdict_by_networks(alloc, interner, id, once, weigh, mode, first, shelf.limit()) {
+            Ok(Verdict::None) => return Ok(Verdict::None),
+            Ok(Verdict::Witness(tree, weight)) => return Ok(Verdict::Witness(tree, weight)),
+            Ok(Verdict::Limit) | Err(_) => (),
+        }
+    }
     let Some(made) = easier_than(alloc, interner, id, weigh) else {
         return verdict_alone(alloc, g, interner, id, once, weigh, kept, shelf);
     };
