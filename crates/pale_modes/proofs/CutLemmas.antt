@@ -7,7 +7,7 @@ use Rattle.std.proofs.Math.Seq.{take-append_seam}
 use Rattle.std.proofs.lemmas.List.Elements.{Contains-append_right}
 use Rattle.gta_theory.proofs.ListsLemmas.{Contains-first, Contains-later}
 use Rattle.store_text.specs.Lines.{lines_of}
-use Rattle.pale_replay.specs.Parts.{cut_line, HasNoCut, IsCutAs}
+use Rattle.pale_parts.specs.Parts.{cut_line, HasNoCut, IsCutAs}
 
 -- ---- the bytes of lines
 

@@ -13,7 +13,7 @@ use Rattle.pale_typed.specs.declared.typed.ProcEntry.{ProcEntry}
 use Rattle.pale_typed.specs.TypedPrograms.{TypedProgram}
 use Rattle.whole_program.specs.ProgramTexts.{IsReadAs, IsRefusedAs}
 use Rattle.pale_replay.specs.declared.answer.Answer.{Answer}
-use Rattle.pale_replay.specs.Parts.{IsTripleLine}
+use Rattle.pale_parts.specs.Parts.{IsTripleLine}
 use Rattle.pale_replay.specs.Replaying.{NamesTriple, IsRefusedAt, nothing, no_triple_line, no_triple, no_store, SaysOf, IsReplayOf, uncut, cut}
 use Rattle.pale_replay.specs.Replaying.{IsReplayStop, uncut_stop, cut_stop}
 use Rattle.pale_replay.specs.Replaying as saying

@@ -10,7 +10,7 @@ use Rattle.pale_typed.specs.declared.typed.ProcEntry.{ProcEntry}
 use Rattle.pale_typed.specs.TypedPrograms.{TypedProgram}
 use Rattle.whole_program.specs.ProgramTexts as programs
 use Rattle.pale_replay.specs.declared.answer.Answer.{Answer}
-use Rattle.pale_replay.specs.Parts.{IsCutAs}
+use Rattle.pale_parts.specs.Parts.{IsCutAs}
 use Rattle.pale_replay.specs.Replaying.{NamesTriple}
 use Rattle.pale_replay.specs.Replays.{Replays}
 use Rattle.pale_replay.specs.Lines.{line_of}

@@ -1,4 +1,3 @@
-pub mod PartLemmas
 pub mod NumberLemmas
 pub mod ArrivalLemmas
 pub mod TellingLemmas

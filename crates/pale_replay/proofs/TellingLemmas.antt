@@ -23,7 +23,7 @@ use Rattle.pale_replay.specs.declared.answer.Replay.{Replay}
 use Rattle.pale_replay.specs.declared.answer.Answer.TheVariants.{StoreRefused}
 use Rattle.pale_replay.specs.Lines.{line_of, store_refused_line}
 use Rattle.pale_replay.specs.Replays.{Replays}
-use Rattle.pale_replay.specs.Parts.{IsCutAs, HasNoCut, IsTripleLine}
+use Rattle.pale_parts.specs.Parts.{IsCutAs, HasNoCut, IsTripleLine}
 use Rattle.pale_replay.specs.Replaying.{NamesTriple, IsRefusedAt, nothing, no_triple_line, no_triple, no_store, SaysOf, refused, store}
 use Rattle.pale_replay.specs.Replaying.{IsReplayOf, uncut, cut, IsReplayStop, uncut_stop, cut_stop}
 use Rattle.pale_replay.specs.Running.{CanBeRun}

@@ -1,4 +1,3 @@
-pub mod Parts
 pub mod Lines
 pub mod Replays
 pub mod Replaying

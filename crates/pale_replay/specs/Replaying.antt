@@ -13,7 +13,7 @@ use Rattle.pale_typed.specs.TypedPrograms.{TypedProgram}
 use Rattle.whole_program.specs.ProgramTexts.{IsReadAs, IsStopOf}
 use Rattle.pale_replay.specs.declared.answer.Answer.{Answer}
 use Rattle.pale_replay.specs.declared.answer.Answer.TheVariants.{StoreRefused}
-use Rattle.pale_replay.specs.Parts.{IsCutAs, HasNoCut, IsTripleLine}
+use Rattle.pale_parts.specs.Parts.{IsCutAs, HasNoCut, IsTripleLine}
 use Rattle.pale_replay.specs.Lines.{line_of, store_refused_line}
 use Rattle.pale_replay.specs.Replays.{Replays}
 

@@ -7,8 +7,8 @@ ghost use Rattle.pale_replay.specs.Replaying.{SaysOf, NamesTriple, IsReplayOf, I
 
 use crate::answer::Replay;
 use crate::lines::{store_refused, told};
-use crate::parts::{cut_text, split_line, triple_in};
 use crate::stores::replay_store;
+use pale_parts::{cut_text, split_line, triple_in};
 use pale_text::TextStop;
 use std::alloc::{AllocError, Global};
 use store_exec::Triple;

@@ -11,7 +11,7 @@ use Rattle.pale_io.specs.declared.stops.WriteStop.TheVariants.{Failed, NoMemory}
 use Rattle.store_exec.specs.declared.triple.Triple.{Triple}
 use Rattle.pale_typed.specs.TypedPrograms.{TypedProgram}
 use Rattle.pale_words.specs.declared.words.Mode.{Mode}
-use Rattle.pale_words.specs.declared.words.Mode.TheVariants.{Check, Replay, Format, Ws2s, Gen}
+use Rattle.pale_words.specs.declared.words.Mode.TheVariants.{Check, Replay, Format, Ws2s, Judge, Gen}
 use Rattle.pale_words.specs.declared.words.Settings.{Settings}
 use Rattle.pale_words.specs.Words.{AsksFor, Gives, IsRefused}
 use Rattle.pale_words.proofs.GivesLemmas.{not_refused, same_mode}
@@ -30,7 +30,13 @@ use Rattle.program_judge.specs.declared.ways.Ending.TheVariants as ending
 use Rattle.pale_top.specs.Checking.{Checks}
 use Rattle.pale_top.specs.Checking as checking
 use Rattle.pale_top.specs.Output.{Answers, Begins, CallOutput, IsAnswer, IsCutShort, Output}
-use Rattle.pale_top.specs.Output.{check, replay, format, ws2s, generated, refused, given}
+use Rattle.pale_top.specs.Judging.{Judges, JudgesRequest}
+use Rattle.pale_top.specs.Judging as judging
+use Rattle.pale_parts.specs.declared.request.Request.{Request}
+use Rattle.program_judge.specs.declared.ways.TripleWay.{TripleWay}
+use Rattle.program_judge.specs.declared.ways.TripleWay.TheVariants as tripled
+use Rattle.program_judge.specs.Reports.{stopped_ending}
+use Rattle.pale_top.specs.Output.{check, replay, format, ws2s, judge, generated, refused, given}
 use Rattle.pale_top.specs.Generating.{Gens, Tells}
 use Rattle.pale_top.specs.Generating as generating
 
@@ -79,6 +85,25 @@ checked_given limit text output status (checking.too_long more) = tt
 checked_given limit text output status (checking.refused refusal within is) = tt
 checked_given limit text output status (checking.judged program triples o how within is reports) = ending_given how
 
+way_given : (how : TripleWay) → IsGiven (judging.status_of_way how)
+way_given tripled.Valid = tt
+way_given tripled.Invalid = tt
+way_given tripled.Limit = tt
+
+judged_given : (limit : ℕ) (program : TypedProgram) (triples : List Triple) (r : Request) (output : List ℕ) (status : Status) →
+    JudgesRequest limit program triples r output status → IsGiven status
+judged_given limit program triples r _ _ (judging.stopped _ lines ways reports some) = ending_given (stopped_ending ways)
+judged_given limit program triples _ _ _ (judging.fields every) = tt
+judged_given limit program triples _ _ _ (judging.triple place t lines how every there report) = way_given how
+
+judges_given : (limit : ℕ) (text output : List ℕ) (status : Status) → Judges limit text output status → IsGiven status
+judges_given limit text output status (judging.too_long more) = tt
+judges_given limit text output status (judging.refused refusal within is) = tt
+judges_given limit text output status (judging.uncut program triples within cut is) = tt
+judges_given limit text output status (judging.no_request part after program triples fault within cut is bad) = tt
+judges_given limit text output status (judging.judged part after program triples r lines s within cut is asked judges) =
+    judged_given limit program triples r lines s judges
+
 told_given : (limit seed : ℕ) (program : TypedProgram) (triples : List Triple) (output : List ℕ) (status : Status) →
     Tells limit seed program triples output status → IsGiven status
 told_given limit seed program triples _ _ (generating.told ways how counts) = ending_given how
@@ -93,6 +118,7 @@ output_given settings text output status (check is written answer checks) = chec
 output_given settings text output status (replay is written answer replays) = replayed_given text output status replays
 output_given settings text output status (format is written answer formats) = formatted_given text output status formats
 output_given settings text output status (ws2s is written answer decides) = decided_given settings.limit text output status decides
+output_given settings text output status (judge is written answer judges) = judges_given settings.limit text output status judges
 output_given settings text output status (generated is written answer gens) = generated_given settings.limit settings.seed output status gens
 
 -- each is an answer
@@ -175,6 +201,7 @@ too_long_output settings text reads more = by_mode settings.mode refl
     by_mode Replay is = replay is too_long_line Text (replaying.too_long more)
     by_mode Format is = format is too_long_line Text (formatting.too_long more)
     by_mode Ws2s is = ws2s is too_long_line Text (deciding.too_long more)
+    by_mode Judge is = judge is too_long_line Text (judging.too_long more)
     by_mode Gen is = absurd (reads is)
 
 -- ---- a call that says one line
@@ -215,6 +242,7 @@ generated_for_all settings asks text other output status (check is written answe
 generated_for_all settings asks text other output status (replay is written answer replays) = (let bad : Gen ≡ Replay = sym asks ∙ is in absurd (cc))
 generated_for_all settings asks text other output status (format is written answer formats) = (let bad : Gen ≡ Format = sym asks ∙ is in absurd (cc))
 generated_for_all settings asks text other output status (ws2s is written answer decides) = (let bad : Gen ≡ Ws2s = sym asks ∙ is in absurd (cc))
+generated_for_all settings asks text other output status (judge is written answer judges) = (let bad : Gen ≡ Judge = sym asks ∙ is in absurd (cc))
 generated_for_all settings asks text other output status (generated is written answer gens) = generated is written answer gens
 
 -- what they give for one text they give for each

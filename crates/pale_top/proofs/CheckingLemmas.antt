@@ -26,6 +26,7 @@ use Rattle.program_judge.specs.Reports.{ReportsField, ReportsFields, no_field, R
 use Rattle.program_judge.specs.Reports.{ReportsAll, totalled, ReportsProgram, stopped, judged}
 use Rattle.program_judge.proofs.JoinedLemmas.{field-more, triple-more}
 use Rattle.program_judge.proofs.EndingLemmas.{fields-end, triples-end}
+use Rattle.pale_top.specs.Checking.{WroteFields, behind, inside}
 
 -- ---- what was written so far begins an output
 
@@ -77,53 +78,67 @@ all_done xs = sym (append-nil xs)
 abbrev pub FieldsWrote : ℕ → List TypeEntry → Option (List ℕ) → ℕ → Option (List ℕ) → List FieldWay → Type 0
 FieldsWrote limit types a i b ways = Wrote (ReportsFields limit types (take i (pointer_fields types))) a b ways
 
+module _ (limit : ℕ) (types : List TypeEntry) (a : Option (List ℕ)) where
+  abbrev fields : List FieldId
+  fields = pointer_fields types
+
+  pub fields_start : FieldsWrote limit types a 0 a []
+  fields_start = record { output = []; allowed = no_field; written = nothing_written a }
+
+  told_next : (i : ℕ) (f : FieldId) (lines piece : List ℕ) (ways : List FieldWay) (way : FieldWay) → i < length fields → f ≡ get_or fields i f →
+      ReportsFields limit types (take i fields) lines ways → ReportsField limit types f piece way →
+      ReportsFields limit types (take (i + 1) fields) (lines ++ piece) (ways ++ way ∷ [])
+  told_next i f lines piece ways way inside is before report =
+      subst (λ (gs : List FieldId). ReportsFields limit types gs (lines ++ piece) (ways ++ way ∷ []))
+      (ap (λ (g : FieldId). take i fields ++ g ∷ []) is ∙ sym (take_more fields i f inside))
+      (field-more limit types (take i fields) lines ways f piece way before report)
+
+  pub fields_next : (i : ℕ) (f : FieldId) (b c : Option (List ℕ)) (ways : List FieldWay) (way : FieldWay) → i < length fields → f ≡ get_or fields i f →
+      FieldsWrote limit types a i b ways → Wrote (ReportsField limit types f) b c way → FieldsWrote limit types a (i + 1) c (ways ++ way ∷ [])
+  fields_next i f b c ways way inside is before next = record {
+    output = before.output ++ next.output;
+    allowed = told_next i f before.output next.output ways way inside is before.allowed next.allowed;
+    written = both_written a b c before.output next.output before.written next.written;
+  }
+
+  -- behind the report of a field
+  pub fields_begin : (i : ℕ) (b : Option (List ℕ)) (ways : List FieldWay) → FieldsWrote limit types a i b ways → WroteFields limit types a b
+  fields_begin i b ways before = behind (take i fields) (drop i fields) ways (sym (take-append-drop i fields)) before
+
+  -- in one
+  pub field_begins : (i : ℕ) (f : FieldId) (b c : Option (List ℕ)) (ways : List FieldWay) → i < length fields → f ≡ get_or fields i f →
+      FieldsWrote limit types a i b ways → WroteAtMost (ReportsField limit types f) b c → WroteFields limit types a c
+  field_begins i f b c ways inside is before (inl same) =
+      subst (λ (d : Option (List ℕ)). WroteFields limit types a d) (sym same) (fields_begin i b ways before)
+  field_begins i f b c ways within is before (inr front) =
+      inside (take (i + 1) fields) (drop (i + 1) fields) (before.output ++ front.output) (ways ++ front.status ∷ [])
+      (sym (take-append-drop (i + 1) fields)) (told_next i f before.output front.output ways front.status within is before.allowed front.allowed)
+      (front_of_second a b c before.output front.output before.written front.written)
+
+  -- all are reported on
+  pub fields_whole : (i : ℕ) (b : Option (List ℕ)) (ways : List FieldWay) → length fields ≤ i → FieldsWrote limit types a i b ways →
+      Wrote (ReportsFields limit types fields) a b ways
+  fields_whole i b ways all before =
+      subst (λ (gs : List FieldId). Wrote (ReportsFields limit types gs) a b ways) (take_all i fields all) before
+
 module _ (limit : ℕ) (program : TypedProgram) (triples : List Triple) (fits : ProgramFits program) (own : All (FitsProgram program) triples)
     (a : Option (List ℕ)) where
   abbrev fs : List FieldId
   fs = pointer_fields program.types
 
-  pub fields_start : FieldsWrote limit program.types a 0 a []
-  fields_start = record { output = []; allowed = no_field; written = nothing_written a }
-
-  pub fields_next : (i : ℕ) (f : FieldId) (b c : Option (List ℕ)) (ways : List FieldWay) (way : FieldWay) → i < length fs → f ≡ get_or fs i f →
-      FieldsWrote limit program.types a i b ways → Wrote (ReportsField limit program.types f) b c way → FieldsWrote limit program.types a (i + 1) c
-      (ways ++ way ∷ [])
-  fields_next i f b c ways way inside is before next = record {
-    output = before.output ++ next.output;
-    allowed = subst (λ (gs : List FieldId). ReportsFields limit program.types gs (before.output ++ next.output) (ways ++ way ∷ []))
-        (ap (λ (g : FieldId). take i fs ++ g ∷ []) is ∙ sym (take_more fs i f inside))
-        (field-more limit program.types (take i fs) before.output ways f next.output way before.allowed next.allowed);
-    written = both_written a b c before.output next.output before.written next.written;
-  }
-
-  fields_can_end : (i : ℕ) (lines : List ℕ) (ways : List FieldWay) → ReportsFields limit program.types (take i fs) lines ways →
-      CanEnd (ReportsProgram limit program triples) lines
-  fields_can_end i lines ways reports = fields-end limit program triples fits own (take i fs) (drop i fs) (sym (take-append-drop i fs)) lines ways reports
-
-  -- behind the report of a field
-  pub fields_begin : (i : ℕ) (b : Option (List ℕ)) (ways : List FieldWay) → FieldsWrote limit program.types a i b ways → WroteAtMost
-      (ReportsProgram limit program triples) a b
-  fields_begin i b ways before =
-      whole_begins (ReportsProgram limit program triples) a b before.output before.written (fields_can_end i before.output ways before.allowed)
-
-  -- in one
-  pub field_begins : (i : ℕ) (f : FieldId) (b c : Option (List ℕ)) (ways : List FieldWay) → i < length fs → f ≡ get_or fs i f → FieldsWrote limit
-      program.types a i b ways →
-      WroteAtMost (ReportsField limit program.types f) b c → WroteAtMost (ReportsProgram limit program triples) a c
-  field_begins i f b c ways inside is before (inl same) =
-      subst (λ (d : Option (List ℕ)). WroteAtMost (ReportsProgram limit program triples) a d) (sym same) (fields_begin i b ways before)
-  field_begins i f b c ways inside is before (inr front) =
-      let reports = subst (λ (gs : List FieldId). ReportsFields limit program.types gs (before.output ++ front.output) (ways ++ front.status ∷ []))
-      (ap (λ (g : FieldId). take i fs ++ g ∷ []) is ∙ sym (take_more fs i f inside))
-      (field-more limit program.types (take i fs) before.output ways f front.output front.status before.allowed front.allowed) in
-      piece_begins (ReportsProgram limit program triples) a b c before.output front.output before.written front.written
-      (fields_can_end (i + 1) (before.output ++ front.output) (ways ++ front.status ∷ []) reports)
-
-  -- all are reported on
-  pub fields_whole : (i : ℕ) (b : Option (List ℕ)) (ways : List FieldWay) → length fs ≤ i → FieldsWrote limit program.types a i b ways →
-      Wrote (ReportsFields limit program.types fs) a b ways
-  fields_whole i b ways all before =
-      subst (λ (gs : List FieldId). Wrote (ReportsFields limit program.types gs) a b ways) (take_all i fs all) before
+  -- what was written before a stop among the fields begins a report of the program
+  pub fields_cut : (c : Option (List ℕ)) → WroteFields limit program.types a c → WroteAtMost (ReportsProgram limit program triples) a c
+  fields_cut c (behind done rest ways split before) =
+      whole_begins (ReportsProgram limit program triples) a c before.output before.written
+      (fields-end limit program triples fits own done rest split before.output ways before.allowed)
+  fields_cut c (inside done rest lines ways split reports front) =
+      let end = fields-end limit program triples fits own done rest split lines ways reports in
+      inr (record {
+        output = lines ++ end.tail;
+        status = end.how;
+        allowed = end.allowed;
+        written = front_of_first a c lines end.tail front;
+      })
 
   -- ---- behind the fields
 

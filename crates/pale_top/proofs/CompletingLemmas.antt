@@ -13,7 +13,7 @@ use Rattle.ws2s_syntax.specs.Checked as checked
 use Rattle.pale_generator.specs.Generated.{program_text}
 use Rattle.pale_io.specs.Whole.{WritesAll}
 use Rattle.pale_words.specs.declared.words.Mode.{Mode}
-use Rattle.pale_words.specs.declared.words.Mode.TheVariants.{Check, Replay, Format, Ws2s, Gen}
+use Rattle.pale_words.specs.declared.words.Mode.TheVariants.{Check, Replay, Format, Ws2s, Judge, Gen}
 use Rattle.pale_words.specs.declared.words.Settings.{Settings}
 use Rattle.pale_words.specs.Words.{AsksFor, Gives, IsRefused}
 use Rattle.pale_words.proofs.GivesLemmas.{not_refused, same_limit, same_mode}
@@ -30,14 +30,18 @@ use Rattle.pale_modes.proofs.ReplayedLemmas as replayed
 use Rattle.program_judge.specs.declared.ways.Ending.{Ending}
 use Rattle.program_judge.specs.declared.ways.FieldWay.{FieldWay}
 use Rattle.program_judge.specs.declared.ways.TripleWay.{TripleWay}
-use Rattle.program_judge.specs.Reports.{pointer_fields, ReportsFields, ReportsTriples, ReportsProgram}
+use Rattle.program_judge.specs.Reports.{pointer_fields, ReportsFields, ReportsTriple, ReportsTriples, ReportsProgram}
+use Rattle.program_judge.specs.declared.ways.TripleWay.TheVariants as tripled
+use Rattle.program_promises.specs.Completeness.{IsTripleWithin}
 use Rattle.program_promises.specs.Telling.{TellsFields, TellsTriples, TellsProgram}
 use Rattle.pale_top.specs.Checking.{Checks, too_long, refused, judged}
 use Rattle.pale_top.specs.Completing.{ChecksEach, Completes, CountsEach, GensEach}
 use Rattle.pale_top.specs.Completing as counting
+use Rattle.pale_top.specs.Judging.{Judges}
+use Rattle.pale_top.proofs.JudgedLemmas as judged
 use Rattle.pale_top.specs.Generating.{Counts, Gens, Tells}
 use Rattle.pale_top.specs.Generating as generating
-use Rattle.pale_top.specs.Output.{CallOutput, Output, check, replay, format, ws2s, generated}
+use Rattle.pale_top.specs.Output.{CallOutput, Output, check, replay, format, ws2s, judge, generated}
 use Rattle.pale_top.specs.Output as called
 
 -- what the layers below say of readings, reports and outputs
@@ -50,6 +54,8 @@ pub record Laws : Type 0 where
       ReportsFields limit types (pointer_fields types) lines ways → TellsFields limit types lines ways
   pub triples : (limit : ℕ) (program : TypedProgram) (triples : List Triple) (lines : List ℕ) (ways : List TripleWay) →
       ReportsTriples limit program 1 triples lines ways → TellsTriples limit program triples lines ways
+  pub triple : (limit : ℕ) (program : TypedProgram) (k : ℕ) (t : Triple) (lines : List ℕ) (how : TripleWay) →
+      ReportsTriple limit program k t lines how → IsTripleWithin limit program t → (how ≡ tripled.Valid) ⊎ (how ≡ tripled.Invalid)
   pub program : (limit : ℕ) (program : TypedProgram) (triples : List Triple) (output : List ℕ) (how : Ending) →
       ReportsProgram limit program triples output how → TellsProgram limit program triples output how
   pub spelled : (text one other : List ℕ) (status another : Status) → Formats text one status → Formats text other another →
@@ -69,6 +75,7 @@ OutputOf Check limit seed text output status = Checks limit text output status
 OutputOf Replay limit seed text output status = Replays text output status
 OutputOf Format limit seed text output status = Formats text output status
 OutputOf Ws2s limit seed text output status = Decides limit text output status
+OutputOf Judge limit seed text output status = Judges limit text output status
 OutputOf Gen limit seed text output status = Gens limit seed output status
 
 output_of : (settings : Settings) (mode : Mode) → settings.mode ≡ mode → (text output : List ℕ) (status : Status) →
@@ -81,6 +88,8 @@ output_of settings mode asks text output status (format is written answer format
     subst (λ (m : Mode). OutputOf m settings.limit settings.seed text output status) (sym is ∙ asks) formats
 output_of settings mode asks text output status (ws2s is written answer decides) =
     subst (λ (m : Mode). OutputOf m settings.limit settings.seed text output status) (sym is ∙ asks) decides
+output_of settings mode asks text output status (judge is written answer judges) =
+    subst (λ (m : Mode). OutputOf m settings.limit settings.seed text output status) (sym is ∙ asks) judges
 output_of settings mode asks text output status (generated is written answer gens) =
     subst (λ (m : Mode). OutputOf m settings.limit settings.seed text output status) (sym is ∙ asks) gens
 
@@ -125,6 +134,12 @@ module _ (laws : Laws) (text : List ℕ) (short : length text ≤ most_bytes) wh
     replay = λ asks program t e s spells. record {
       output = wrote.output;
       allowed = replayed.replayed (record { one = laws.one; apart = laws.apart }) text program t e s spells wrote.output status short (by Replay asks);
+      written = wrote.written;
+    };
+    judge = λ asks program triples r spells. record {
+      output = wrote.output;
+      allowed = judged.judged_each (record { one = laws.one; apart = laws.apart; fields = laws.fields; triple = laws.triple }) text settings.limit program triples r spells
+          wrote.output status short (by Judge asks);
       written = wrote.written;
     };
     format = λ asks tree is.
@@ -188,6 +203,7 @@ none_completed : (settings : Settings) → settings.mode ≡ Gen → (text : Lis
 none_completed settings gen text before after status = record {
   check = λ asks program triples read. absurd (let bad : Check ≡ Gen = sym asks ∙ gen in cc);
   ws2s = λ asks tree within. absurd (let bad : Ws2s ≡ Gen = sym asks ∙ gen in cc);
+  judge = λ asks program triples r spells. absurd (let bad : Judge ≡ Gen = sym asks ∙ gen in cc);
   replay = λ asks program t e s spells. absurd (let bad : Replay ≡ Gen = sym asks ∙ gen in cc);
   format = λ asks tree is. absurd (let bad : Format ≡ Gen = sym asks ∙ gen in cc);
 }

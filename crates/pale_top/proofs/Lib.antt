@@ -1,4 +1,6 @@
 mod CallLemmas
 mod CheckingLemmas
+mod JudgingLemmas
+mod JudgedLemmas
 mod PromiseLemmas
 mod CompletingLemmas

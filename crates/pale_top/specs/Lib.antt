@@ -1,4 +1,5 @@
 pub mod Checking
 pub mod Completing
 pub mod Generating
+pub mod Judging
 pub mod Output

@@ -8,7 +8,8 @@ ghost use Rattle.pale_typed.specs.Fitting.{ProgramFits};
 ghost use Rattle.hoare_split.specs.Fitting.{FitsProgram};
 ghost use Rattle.pale_modes.specs.Written.{Wrote, WroteAtMost};
 ghost use Rattle.program_judge.specs.Reports as reports;
-ghost use Rattle.program_judge.specs.Reports.{ReportsField, ReportsFields, ReportsTriple, ReportsTriples, ReportsAll, ReportsProgram};
+ghost use Rattle.program_judge.specs.Reports.{ReportsField, ReportsFields, ReportsTriple, ReportsTriples, ReportsAll};
+ghost use Rattle.pale_top.specs.Checking.{WroteFields};
 
 use bdd_nodes::Shelf;
 use pale_io::{Sink, WriteStop, write_all};
@@ -58,12 +59,10 @@ pub(crate) fn check_fields<K: Sink>(
     shelf: &mut Shelf,
     sink: &mut K,
 ) -> Result<Vec<FieldWay>, WriteStop>
-    requires program { ProgramFits whole.now.typed }
-    requires triples { All (FitsProgram whole.now.typed) whole.now.triples }
-    requires tables { HasNoTables shelf.old }
+    requires { HasNoTables shelf.old }
     ensures ok { IfOk result (λ ways. Wrote (ReportsFields (limit_of shelf.old) whole.now.typed.types (reports.pointer_fields whole.now.typed.types))
         (K.written sink.old) (K.written sink.new) ways.items) }
-    ensures err { OnErr result (WroteAtMost (ReportsProgram (limit_of shelf.old) whole.now.typed whole.now.triples) (K.written sink.old) (K.written sink.new)) }
+    ensures err { OnErr result (WroteFields (limit_of shelf.old) whole.now.typed.types (K.written sink.old) (K.written sink.new)) }
     ensures failed { IsErrOf result WriteStop.Failed → Rose (K.faults sink.old) (K.faults sink.new) }
     ensures kept { K.faults sink.old ≤ K.faults sink.new }
     ensures tables { HasNoTables shelf.new }
@@ -80,7 +79,7 @@ pub(crate) fn check_fields<K: Sink>(
 }
 
 /// Judges the triple with this number, counted from 1, and writes its report.
-fn check_triple<K: Sink>(
+pub(crate) fn check_triple<K: Sink>(
     alloc: Global,
     typed: &Typed,
     number: u64,

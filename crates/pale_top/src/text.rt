@@ -15,6 +15,7 @@ ghost use Rattle.pale_top.specs.Output.{IsAnswer, IsCutShort, CallOutput, Output
 
 use crate::check::check_text;
 use crate::generate::gen_text;
+use crate::judge::judge_text;
 use pale_io::{Sink, WriteStop};
 use pale_modes::{
     Status, decide_text, ended, format_text, formatting_is_one, replay_text, say,
@@ -54,6 +55,7 @@ fn answer_text<K: Sink>(
         Mode::Replay => replay_text(alloc, text, sink),
         Mode::Format => format_text(alloc, text, sink),
         Mode::Ws2s => decide_text(alloc, settings.limit, text, sink),
+        Mode::Judge => judge_text(alloc, settings.limit, text, passes, sink),
         Mode::Gen => unreachable!(),
     }
 }
@@ -74,7 +76,7 @@ fn obey<K: Sink>(
 {
     match settings.mode {
         Mode::Gen => gen_text(alloc, settings.limit, settings.seed, passes, sink),
-        Mode::Check | Mode::Replay | Mode::Format | Mode::Ws2s => {
+        Mode::Check | Mode::Replay | Mode::Format | Mode::Ws2s | Mode::Judge => {
             answer_text(alloc, settings, text, passes, sink)
         }
     }

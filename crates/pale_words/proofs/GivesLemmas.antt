@@ -1,46 +1,29 @@
 -- What words ask for is one thing, and refused words ask for nothing.
-use Rattle.std.proofs.Common.{◌≡◌, ◌∙◌, ◌<◌, ℕ, List, [], ◌∷◌, ap, refl, sym, arith}
+use Rattle.std.proofs.Common.{◌≡◌, ◌∙◌, ℕ, List, if◌then◌else◌, ap, refl, sym}
+use Rattle.std.specs.Prelude.{codes}
+use Rattle.std.specs.Str.{bytes_eq}
 use Rattle.std.proofs.lemmas.Option.{same_Some}
 use Rattle.pale_words.specs.declared.words.Mode.{Mode}
-use Rattle.pale_words.specs.declared.words.Mode.TheVariants.{Check, Replay, Format, Ws2s, Gen}
+use Rattle.pale_words.specs.declared.words.Mode.TheVariants.{Check, Replay, Format, Ws2s, Judge, Gen}
 use Rattle.pale_words.specs.declared.words.Settings.{Settings}
 use Rattle.pale_words.specs.Words.{Gives, IsRefused, mode_name}
 
--- the names of the modes begin with letters of their own
-first_letter : List ℕ → ℕ
-first_letter [] = 0
-first_letter (x ∷ xs) = x
+-- the mode that a name is of
+by_name : List ℕ → Mode
+by_name t = if bytes_eq (codes "check") t then Check else (if bytes_eq (codes "replay") t then Replay else (if bytes_eq (codes "format") t then Format
+    else (if bytes_eq (codes "ws2s") t then Ws2s else (if bytes_eq (codes "judge") t then Judge else Gen))))
 
-less : (a b : ℕ) → a < b → a ≡ b → ⊥
-less a b below same = omega (arith, below, same)
+own_name : (mode : Mode) → by_name (mode_name mode) ≡ mode
+unfolding by_name
+own_name Check = refl
+own_name Replay = refl
+own_name Format = refl
+own_name Ws2s = refl
+own_name Judge = refl
+own_name Gen = refl
 
 same_name : (one other : Mode) → mode_name one ≡ mode_name other → one ≡ other
-unfolding first_letter
-same_name Check Check is = refl
-same_name Check Replay is = absurd (less 99 114 (omega arith) (ap first_letter is))
-same_name Check Format is = absurd (less 99 102 (omega arith) (ap first_letter is))
-same_name Check Ws2s is = absurd (less 99 119 (omega arith) (ap first_letter is))
-same_name Check Gen is = absurd (less 99 103 (omega arith) (ap first_letter is))
-same_name Replay Check is = absurd (less 99 114 (omega arith) (ap first_letter (sym is)))
-same_name Replay Replay is = refl
-same_name Replay Format is = absurd (less 102 114 (omega arith) (ap first_letter (sym is)))
-same_name Replay Ws2s is = absurd (less 114 119 (omega arith) (ap first_letter is))
-same_name Replay Gen is = absurd (less 103 114 (omega arith) (ap first_letter (sym is)))
-same_name Format Check is = absurd (less 99 102 (omega arith) (ap first_letter (sym is)))
-same_name Format Replay is = absurd (less 102 114 (omega arith) (ap first_letter is))
-same_name Format Format is = refl
-same_name Format Ws2s is = absurd (less 102 119 (omega arith) (ap first_letter is))
-same_name Format Gen is = absurd (less 102 103 (omega arith) (ap first_letter is))
-same_name Ws2s Check is = absurd (less 99 119 (omega arith) (ap first_letter (sym is)))
-same_name Ws2s Replay is = absurd (less 114 119 (omega arith) (ap first_letter (sym is)))
-same_name Ws2s Format is = absurd (less 102 119 (omega arith) (ap first_letter (sym is)))
-same_name Ws2s Ws2s is = refl
-same_name Ws2s Gen is = absurd (less 103 119 (omega arith) (ap first_letter (sym is)))
-same_name Gen Check is = absurd (less 99 103 (omega arith) (ap first_letter (sym is)))
-same_name Gen Replay is = absurd (less 103 114 (omega arith) (ap first_letter is))
-same_name Gen Format is = absurd (less 102 103 (omega arith) (ap first_letter (sym is)))
-same_name Gen Ws2s is = absurd (less 103 119 (omega arith) (ap first_letter is))
-same_name Gen Gen is = refl
+same_name one other is = sym (own_name one) ∙ (ap by_name is ∙ own_name other)
 
 module _ (words : List (List ℕ)) (one other : Settings) (a : Gives words one) (b : Gives words other) where
   pub same_mode : one.mode ≡ other.mode

@@ -19,6 +19,8 @@ pub enum Mode {
     Format,
     /// Answers a WS2S text.
     Ws2s,
+    /// Judges one triple of a program, or its pointer fields alone.
+    Judge,
     /// Judges the generator's program of a seed.
     Gen,
 }
@@ -56,7 +58,7 @@ ghost use Rattle.clap.specs.declared.builder.value_parser.ValueParser.TheVariant
 ghost use Rattle.pale_words.specs.Words.{Gives, HasMode, HasNumber, HasSettings, HasValues, number_of, mode_rule, number_rule, IsRefused, IsModeParser};
 ghost use Rattle.pale_words.specs.Words.{mode_name, command_with};
 
-static MODE_NAMES: [&str; 5] = ["check", "replay", "format", "ws2s", "gen"];
+static MODE_NAMES: [&str; 6] = ["check", "replay", "format", "ws2s", "judge", "gen"];
 
 impl Mode {
     /// The mode of this name.
@@ -69,6 +71,7 @@ impl Mode {
             "replay" => Some(Mode::Replay),
             "format" => Some(Mode::Format),
             "ws2s" => Some(Mode::Ws2s),
+            "judge" => Some(Mode::Judge),
             "gen" => Some(Mode::Gen),
             _ => None,
         }

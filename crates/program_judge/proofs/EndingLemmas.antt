@@ -46,6 +46,13 @@ way-functional limit types f _ _ (functional is) good = is
 way-functional limit types f _ _ (ambiguous s c least) good = absurd (false≢true good)
 way-functional limit types f _ _ (field_at_limit over) good = absurd (false≢true good)
 
+-- and nothing is written of it
+way-silent : (limit : ℕ) (types : List TypeEntry) (f : FieldId) (lines : List ℕ) (way : FieldWay) → ReportsField limit types f lines way →
+    is_functional way ≡ true → lines ≡ []
+way-silent limit types f _ _ (functional is) good = refl
+way-silent limit types f _ _ (ambiguous s c least) good = absurd (false≢true good)
+way-silent limit types f _ _ (field_at_limit over) good = absurd (false≢true good)
+
 first-good : (way : FieldWay) (ways : List FieldWay) → list_all is_functional (way ∷ ways) ≡ true → (is_functional way ≡ true) ×
     (list_all is_functional ways ≡ true)
 first-good fielded.Functional ways good = (refl, good)
@@ -168,10 +175,30 @@ module _ (limit : ℕ) (program : TypedProgram) (triples : List Triple) (fits : 
         more = omega (arith, count, length-append l rest.tail);
       }
 
+  -- the reports on the other fields can be told behind those on the first ones
+  pub fields-more : (done rest : List FieldId) → pointer_fields program.types ≡ done ++ rest → (lines : List ℕ) (ways : List FieldWay) →
+      ReportsFields limit program.types done lines ways →
+      (l : List ℕ) × (all : List FieldWay) × ReportsFields limit program.types (pointer_fields program.types) (lines ++ l) all
+  fields-more done rest split lines ways reports =
+      let (l, w, more) = fields-told limit program.types (field-told limit program fits) rest in (
+        l,
+        ways ++ w,
+        subst (λ (fs : List FieldId). ReportsFields limit program.types fs (lines ++ l) (ways ++ w)) (sym split)
+            (fields-joined limit program.types done rest lines l ways w reports more),
+      )
+
   pub fields-end : (done rest : List FieldId) → pointer_fields program.types ≡ done ++ rest → (lines : List ℕ) (ways : List FieldWay) →
       ReportsFields limit program.types done lines ways → CanEnd (ReportsProgram limit program triples) lines
   fields-end done rest split lines ways reports =
-      let (l, w, more) = fields-told limit program.types (field-told limit program fits) rest in
-      let all = subst (λ (fs : List FieldId). ReportsFields limit program.types fs (lines ++ l) (ways ++ w)) (sym split)
-      (fields-joined limit program.types done rest lines l ways w reports more) in
-      fields-end-by lines l (ways ++ w) all (list_all is_functional (ways ++ w)) refl
+      let (l, all, whole) = fields-more done rest split lines ways reports in
+      fields-end-by lines l all whole (list_all is_functional all) refl
+
+-- nothing is written of fields that are told to be functional
+pub functional-silent : (limit : ℕ) (types : List TypeEntry) (fs : List FieldId) (lines : List ℕ) (ways : List FieldWay) → ReportsFields limit types fs lines ways →
+    list_all is_functional ways ≡ true → lines ≡ []
+functional-silent limit types _ _ _ no_field good = refl
+functional-silent limit types _ _ _ (next_field f fs way ways lines others report more) good =
+    let both = first-good way ways good in
+    let rest : others ≡ [] = functional-silent limit types fs others ways more both.1 in
+    let here : lines ≡ [] = way-silent limit types f lines way report both.0 in
+    ap (λ (ls : List ℕ). ls ++ others) here ∙ rest

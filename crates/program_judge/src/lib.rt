@@ -13,6 +13,7 @@ mod triples;
 mod ways;
 
 pub use fields::field_report;
+pub use lines::{push_limit, push_triple_head};
 pub use pointers::pointer_fields;
 pub use totals::{invalid_count, limit_count, totals_text, valid_count};
 pub use triples::triple_report;

@@ -56,8 +56,12 @@ pub(crate) fn push_field_limit(
 
 // ---- triples
 
-/// `triple K PROC line L`
-fn push_triple_head(
+/// Writes `triple K PROC line L`, with which each line on a triple begins.
+///
+/// # Errors
+///
+/// Want of memory.
+pub fn push_triple_head(
     alloc: Global,
     text: &mut Vec<u8>,
     number: u64,
@@ -88,8 +92,12 @@ pub(crate) fn push_valid(
     text.extend_from_slice(b" valid\n")
 }
 
-/// `triple K PROC line L limit`
-pub(crate) fn push_limit(
+/// Writes `triple K PROC line L limit`.
+///
+/// # Errors
+///
+/// Want of memory.
+pub fn push_limit(
     alloc: Global,
     text: &mut Vec<u8>,
     number: u64,

@@ -1,5 +1,5 @@
 -- In each report, a field or a triple whose own Peak is within the limit has a verdict.
-use Rattle.std.proofs.Common.{◌≡◌, ◌⊎◌, inl, inr, ◌≤◌, ◌<◌, ◌++◌, ℕ, zero, suc, true, List, [], Some, refl, subst, arith}
+use Rattle.std.proofs.Common.{◌≡◌, ◌⊎◌, inl, inr, ◌≤◌, ◌<◌, ◌++◌, ℕ, zero, suc, true, List, [], Some, ap, refl, subst, arith}
 use Rattle.std.specs.List.{list_all}
 use Rattle.gta_theory.specs.Guides.{Spaces, IsGuide}
 use Rattle.ws2s_core.specs.declared.formula.Formula.{Formula}
@@ -61,15 +61,23 @@ module _ (laws : Laws) (limit : ℕ) where
 
   -- ---- triples
 
-  triple_told : (program : TypedProgram) (k : ℕ) (t : Triple) (lines : List ℕ) (way : TripleWay) → ReportsTriple limit program k t lines way →
-      IsTripleWithin limit program t → (Some way ≡ Some tripled.Valid) ⊎ (Some way ≡ Some tripled.Invalid)
-  triple_told program k t _ _ (valid e there is) within = inl refl
-  triple_told program k t _ _ (invalid e s why at there least) within = inr refl
-  triple_told program k t _ _ (triple_at_limit e there over) within =
+  pub triple_decided : (program : TypedProgram) (k : ℕ) (t : Triple) (lines : List ℕ) (way : TripleWay) → ReportsTriple limit program k t lines way →
+      IsTripleWithin limit program t → (way ≡ tripled.Valid) ⊎ (way ≡ tripled.Invalid)
+  triple_decided program k t _ _ (valid e there is) within = inl refl
+  triple_decided program k t _ _ (invalid e s why at there least) within = inr refl
+  triple_decided program k t _ _ (triple_at_limit e there over) within =
       let (p, peak) = laws.greatest program.types e.vars t in
       let above : limit < p = over p peak in
       let below : p ≤ limit = within e p there peak in
       absurd (omega (arith, above, below))
+
+  triple_told : (program : TypedProgram) (k : ℕ) (t : Triple) (lines : List ℕ) (way : TripleWay) → ReportsTriple limit program k t lines way →
+      IsTripleWithin limit program t → (Some way ≡ Some tripled.Valid) ⊎ (Some way ≡ Some tripled.Invalid)
+  triple_told program k t lines way report within =
+      elim (triple_decided program k t lines way report within) as (λ _. (Some way ≡ Some tripled.Valid) ⊎ (Some way ≡ Some tripled.Invalid)) [
+        | inl is ↦ inl (ap (λ (w : TripleWay). Some w) is)
+        | inr is ↦ inr (ap (λ (w : TripleWay). Some w) is)
+      ]
 
   triples_told : (program : TypedProgram) (k : ℕ) (ts : List Triple) (lines : List ℕ) (ways : List TripleWay) →
       ReportsTriples limit program k ts lines ways → AreTriplesDecided limit program ts ways

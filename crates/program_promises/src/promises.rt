@@ -8,11 +8,12 @@ ghost use Rattle.pale_typed.specs.TypedPrograms.{TypedProgram};
 ghost use Rattle.whole_program.specs.ProgramTexts.{IsReadAs, IsRefusedAs};
 ghost use Rattle.program_judge.specs.declared.ways.FieldWay.{FieldWay};
 ghost use Rattle.program_judge.specs.declared.ways.TripleWay.{TripleWay};
+ghost use Rattle.program_judge.specs.declared.ways.TripleWay.TheVariants as tripled;
 ghost use Rattle.program_judge.specs.declared.ways.Ending.{Ending};
 ghost use Rattle.program_judge.specs.declared.ways.Ending.TheVariants as ending;
-ghost use Rattle.program_judge.specs.Reports.{pointer_fields, ReportsFields, ReportsTriples, ReportsProgram};
+ghost use Rattle.program_judge.specs.Reports.{pointer_fields, ReportsFields, ReportsTriple, ReportsTriples, ReportsProgram};
 ghost use Rattle.program_promises.specs.Safety.{RunsNeverFail};
-ghost use Rattle.program_promises.specs.Completeness.{ArePeaksWithin};
+ghost use Rattle.program_promises.specs.Completeness.{IsTripleWithin, ArePeaksWithin};
 ghost use Rattle.program_promises.specs.Telling.{TellsFields, TellsTriples, TellsProgram};
 
 use field_judge::laws::ambiguous_fields_are_not_functional;
@@ -65,6 +66,8 @@ pub fn reports_tell_each_within_its_peak()
         ReportsFields limit types (pointer_fields types) lines ways → TellsFields limit types lines ways }
     ensures triples { (limit : ℕ) (program : TypedProgram) (triples : List Triple) (lines : List ℕ) (ways : List TripleWay) →
         ReportsTriples limit program 1 triples lines ways → TellsTriples limit program triples lines ways }
+    ensures triple { (limit : ℕ) (program : TypedProgram) (k : ℕ) (t : Triple) (lines : List ℕ) (how : TripleWay) →
+        ReportsTriple limit program k t lines how → IsTripleWithin limit program t → (how ≡ tripled.Valid) ⊎ (how ≡ tripled.Invalid) }
     ensures program { (limit : ℕ) (program : TypedProgram) (triples : List Triple) (output : List ℕ) (how : Ending) →
         ReportsProgram limit program triples output how → TellsProgram limit program triples output how }
 {

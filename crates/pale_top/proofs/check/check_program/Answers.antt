@@ -7,8 +7,20 @@ use Rattle.program_judge.specs.Reports.{ReportsAll, ReportsFields, ReportsProgra
 use Rattle.program_judge.proofs.EndingLemmas.{all-functional}
 use Rattle.pale_modes.specs.Written.{Wrote, WroteAtMost}
 use Rattle.pale_modes.proofs.WrittenLemmas.{on_err, on_err_weaker}
-use Rattle.pale_top.proofs.CheckingLemmas.{judged_begins, judged_whole, stopped_begins, stopped_whole}
+use Rattle.pale_top.proofs.CheckingLemmas.{fields_cut, judged_begins, judged_whole, stopped_begins, stopped_whole}
+use Rattle.pale_top.specs.Checking.{WroteFields}
 use Rattle.pale_top.proofs.check.check_program.Goals as goal
+
+pub returns-in_err-ways-clause-err : goal.returns-in_err-ways-clause-err
+returns-in_err-ways-clause-err g c =
+    let a = g.K.Sink.written c.args.sink.now in
+    let b = g.K.Sink.written c.check_fields.new.sink in
+    let limit = c.args.limit in
+    let program = c.args.whole.now.typed in
+    let opened : limit_of c.in_ok-shelf.shelf ≡ limit = ap limit_of c.in_ok-shelf.ensures.empty in
+    on_err c.from_residual-in_err-ways.result
+    (fields_cut limit program c.args.whole.now.triples c.requires.program c.requires.triples a b
+    (subst (λ (l : ℕ). WroteFields l program.types a b) opened c.in_err-ways.ensures.err))
 
 pub check_all-requires-clause-functional : goal.check_all-requires-clause-functional
 check_all-requires-clause-functional g c =

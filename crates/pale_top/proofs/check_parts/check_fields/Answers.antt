@@ -17,8 +17,8 @@ loop-f-init g c =
     let program = c.args.whole.now.typed in
     record {
       so_far = subst (λ (ways : List FieldWay). FieldsWrote limit program.types a 0 a ways) (sym c.new-ways.ensures.items)
-          (fields_start limit program c.args.whole.now.triples c.requires.program c.requires.triples a);
-      tables = c.requires.tables;
+          (fields_start limit program.types a);
+      tables = c.requires;
       same_limit = refl;
       kept = omega arith;
     }
@@ -29,7 +29,6 @@ returns-in_err-way-clause-err g c =
     let b = g.K.Sink.written c.loop-f.sink in
     let limit = limit_of c.args.shelf.now in
     let program = c.args.whole.now.typed in
-    let triples = c.args.whole.now.triples in
     let fs = pointer_fields program.types in
     let i = c.loop-f.f-index in
     let ways = c.loop-f.ways.items in
@@ -45,7 +44,7 @@ returns-in_err-way-clause-err g c =
     c.in_err-way.ensures.err in
     let err = subst (λ (l : ℕ). WroteAtMost (ReportsField l program.types f) b d) c.loop-f.invariant.same_limit here in
     on_err c.from_residual-in_err-way.result
-    (field_begins limit program triples c.requires.program c.requires.triples a i f b d ways inside is c.loop-f.invariant.so_far err)
+    (field_begins limit program.types a i f b d ways inside is c.loop-f.invariant.so_far err)
 
 pub returns-in_err-push_way-clause-err : goal.returns-in_err-push_way-clause-err
 returns-in_err-push_way-clause-err g c =
@@ -53,7 +52,6 @@ returns-in_err-push_way-clause-err g c =
     let b = g.K.Sink.written c.loop-f.sink in
     let limit = limit_of c.args.shelf.now in
     let program = c.args.whole.now.typed in
-    let triples = c.args.whole.now.triples in
     let fs = pointer_fields program.types in
     let i = c.loop-f.f-index in
     let ways = c.loop-f.ways.items in
@@ -68,10 +66,10 @@ returns-in_err-push_way-clause-err g c =
     let here = subst (λ (ts : List TypeEntry). Wrote (ReportsField (limit_of c.loop-f.shelf) ts f) b d c.in_ok-way.way) c.types-types.ensures
     c.in_ok-way.ensures.ok in
     let ok = subst (λ (l : ℕ). Wrote (ReportsField l program.types f) b d c.in_ok-way.way) c.loop-f.invariant.same_limit here in
-    let next = fields_next limit program triples c.requires.program c.requires.triples a i f b d ways c.in_ok-way.way inside is
+    let next = fields_next limit program.types a i f b d ways c.in_ok-way.way inside is
     c.loop-f.invariant.so_far ok in
     on_err c.from_residual-in_err-push_way.result
-    (fields_begin limit program triples c.requires.program c.requires.triples a (i + 1) d (ways ++ c.in_ok-way.way ∷ []) next)
+    (fields_begin limit program.types a (i + 1) d (ways ++ c.in_ok-way.way ∷ []) next)
 
 pub loop-f-preserved : goal.loop-f-preserved
 loop-f-preserved g c =
@@ -79,7 +77,6 @@ loop-f-preserved g c =
     let b = g.K.Sink.written c.loop-f.sink in
     let limit = limit_of c.args.shelf.now in
     let program = c.args.whole.now.typed in
-    let triples = c.args.whole.now.triples in
     let fs = pointer_fields program.types in
     let i = c.loop-f.f-index in
     let ways = c.loop-f.ways.items in
@@ -94,7 +91,7 @@ loop-f-preserved g c =
     let here = subst (λ (ts : List TypeEntry). Wrote (ReportsField (limit_of c.loop-f.shelf) ts f) b d c.in_ok-way.way) c.types-types.ensures
     c.in_ok-way.ensures.ok in
     let ok = subst (λ (l : ℕ). Wrote (ReportsField l program.types f) b d c.in_ok-way.way) c.loop-f.invariant.same_limit here in
-    let next = fields_next limit program triples c.requires.program c.requires.triples a i f b d ways c.in_ok-way.way inside is
+    let next = fields_next limit program.types a i f b d ways c.in_ok-way.way inside is
     c.loop-f.invariant.so_far ok in
     record {
       so_far = subst (λ (ws : List FieldWay). FieldsWrote limit program.types a (i + 1) d ws) (sym c.in_ok-push_way.ensures) next;
@@ -109,11 +106,10 @@ returns-clause-ok g c =
     let b = g.K.Sink.written c.loop-f.sink in
     let limit = limit_of c.args.shelf.now in
     let program = c.args.whole.now.typed in
-    let triples = c.args.whole.now.triples in
     let fs = pointer_fields program.types in
     let i = c.loop-f.f-index in
     let ways = c.loop-f.ways.items in
     let items = c.as_slice-f-items.result.now in
     let listed : items ≡ fs = c.as_slice-f-items.ensures.value ∙ (c.in_ok-fields.ensures ∙ ap pointer_fields c.types-types.ensures) in
     let all : length fs ≤ i = subst (λ (gs : List FieldId). length gs ≤ i) listed (omega (arith, c.loop-f-test.false)) in
-    fields_whole limit program triples c.requires.program c.requires.triples a i b ways all c.loop-f.invariant.so_far
+    fields_whole limit program.types a i b ways all c.loop-f.invariant.so_far

@@ -1,7 +1,8 @@
 use Rattle.std.proofs.Common.{rules}
 use Rattle.pale_modes.specs.Formatting.{Formats}
 use Rattle.pale_top.specs.Checking.{Checks}
-use Rattle.pale_top.specs.Output.{Output, check, replay, format, ws2s}
+use Rattle.pale_top.specs.Judging.{Judges}
+use Rattle.pale_top.specs.Output.{Output, check, replay, format, ws2s, judge}
 use Rattle.pale_modes.specs.Deciding.{Decides}
 use Rattle.pale_modes.specs.Replaying.{Replays}
 use Rattle.pale_modes.proofs.WrittenLemmas.{begun-weaker, whole-weaker}
@@ -60,3 +61,13 @@ pub returns-in-Ws2s-clause-err : goal.returns-in-Ws2s-clause-err
 returns-in-Ws2s-clause-err g c =
     begun-weaker (Decides c.args.settings.limit c.args.text.now) (Output c.args.settings c.args.text.now) (ws2s c.in-Ws2s.is)
     (g.K.Sink.written c.args.sink.now) (g.K.Sink.written c.decide_text.new.sink) c.decide_text.result c.decide_text.ensures.err
+
+pub returns-in-Judge-clause-ok : goal.returns-in-Judge-clause-ok
+returns-in-Judge-clause-ok g c =
+    whole-weaker (Judges c.args.settings.limit c.args.text.now) (Output c.args.settings c.args.text.now) (judge c.in-Judge.is)
+    (g.K.Sink.written c.args.sink.now) (g.K.Sink.written c.judge_text.new.sink) c.judge_text.result c.judge_text.ensures.ok
+
+pub returns-in-Judge-clause-err : goal.returns-in-Judge-clause-err
+returns-in-Judge-clause-err g c =
+    begun-weaker (Judges c.args.settings.limit c.args.text.now) (Output c.args.settings c.args.text.now) (judge c.in-Judge.is)
+    (g.K.Sink.written c.args.sink.now) (g.K.Sink.written c.judge_text.new.sink) c.judge_text.result c.judge_text.ensures.err

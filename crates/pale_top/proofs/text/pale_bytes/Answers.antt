@@ -27,6 +27,7 @@ returns-clause-each_answered g c is settings gives short =
       apart = c.texts_have_one_reading.ensures.apart;
       fields = c.reports_tell_each_within_its_peak.ensures.fields;
       triples = c.reports_tell_each_within_its_peak.ensures.triples;
+      triple = c.reports_tell_each_within_its_peak.ensures.triple;
       program = c.reports_tell_each_within_its_peak.ensures.program;
       spelled = c.formatting_is_one.ensures;
       decided = c.texts_within_their_peaks_are_decided.ensures;
@@ -43,6 +44,7 @@ returns-clause-each_counted g c is settings gives asks short program triples rea
       apart = c.texts_have_one_reading.ensures.apart;
       fields = c.reports_tell_each_within_its_peak.ensures.fields;
       triples = c.reports_tell_each_within_its_peak.ensures.triples;
+      triple = c.reports_tell_each_within_its_peak.ensures.triple;
       program = c.reports_tell_each_within_its_peak.ensures.program;
       spelled = c.formatting_is_one.ensures;
       decided = c.texts_within_their_peaks_are_decided.ensures;

@@ -3,9 +3,9 @@ use Rattle.std.proofs.lemmas.List.{at_drop_more, drop_all}
 use Rattle.std.proofs.lemmas.Bool.Decides.{nat_tests}
 use Rattle.store_text.specs.Spelling.{number_after}
 use Rattle.store_text.proofs.SpellingLemmas.{number_after-digit, number_after-stray, number_after-great, number_after-end}
-use Rattle.pale_replay.proofs.parts.number_after.Goals as goal
-use Rattle.pale_replay.proofs.parts.number_after.Goals.{then-not-is_ascii_digit-via-then-not-is_ascii_digit}
-use Rattle.pale_replay.proofs.parts.number_after.Goals.{then-not-is_ascii_digit-via-else-not-is_ascii_digit+then-number}
+use Rattle.pale_parts.proofs.parts.number_after.Goals as goal
+use Rattle.pale_parts.proofs.parts.number_after.Goals.{then-not-is_ascii_digit-via-then-not-is_ascii_digit}
+use Rattle.pale_parts.proofs.parts.number_after.Goals.{then-not-is_ascii_digit-via-else-not-is_ascii_digit+then-number}
 
 pub returns-then-not-is_ascii_digit : goal.returns-then-not-is_ascii_digit
 returns-then-not-is_ascii_digit c =

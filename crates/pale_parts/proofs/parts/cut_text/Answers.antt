@@ -2,9 +2,9 @@ use Rattle.std.proofs.Common.{◌∙◌, sym}
 use Rattle.std.proofs.lemmas.Bool.{false≢true}
 use Rattle.std.proofs.lemmas.Slice.Eq.{bytes_eq-Decides}
 use Rattle.store_text.proofs.LineLemmas.{rest_from}
-use Rattle.pale_replay.specs.Parts.{cut_line}
-use Rattle.pale_replay.proofs.PartLemmas.{goes_on, cut_here}
-use Rattle.pale_replay.proofs.parts.cut_text.Goals as goal
+use Rattle.pale_parts.specs.Parts.{cut_line}
+use Rattle.pale_parts.proofs.PartLemmas.{goes_on, cut_here}
+use Rattle.pale_parts.proofs.parts.cut_text.Goals as goal
 
 pub returns-then-is_cut_line-clause-cut : goal.returns-then-is_cut_line-clause-cut
 returns-then-is_cut_line-clause-cut c =

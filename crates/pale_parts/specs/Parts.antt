@@ -1,4 +1,4 @@
--- The parts of a text that is replayed: a program, a line `---`, and then a line `triple K` and a store text.
+-- The parts of a text that has more than a program: the program, a line `---`, and then a line that asks for something, as `triple K`.
 use Rattle.std.specs.Prelude.{◌≡◌, ◌⊎◌, ℕ, List, [], ◌∷◌, ◌++◌, codes, Some, Contains}
 use Rattle.store_text.specs.Lines.{lines_of}
 use Rattle.store_text.specs.Spelling.{number_of}

@@ -1,10 +1,10 @@
-//! The parts of a text that is replayed: a program, a line `---`, a line `triple K`, and a store.
+//! The parts of a text that has more than a program: the program, a line `---`, and what follows it.
 
 ghost use Rattle.std.specs.Prelude.{◌≡◌, ◌<◌, ◌≤◌, ◌==◌, ◌∷◌, ◌++◌, ◌⊎◌, [], ℕ, length, codes, position, IfSome, IfNone};
 ghost use Rattle.std.specs.Str.{bytes_eq};
 ghost use Rattle.store_text.specs.Lines.{lines_of};
 ghost use Rattle.store_text.specs.Spelling.{number_of, number_after};
-ghost use Rattle.pale_replay.specs.Parts.{cut_line, IsCutAs, HasNoCut, IsTripleLine};
+ghost use Rattle.pale_parts.specs.Parts.{cut_line, IsCutAs, HasNoCut, IsTripleLine};
 
 /// The greatest number of a triple in a text.
 const MOST: u32 = 1_000_000;
@@ -17,7 +17,7 @@ fn end_of_line(text: &[u8]) -> Option<usize>
 }
 
 /// The first line of a text that isn't over, without its LF, and what follows it.
-pub(crate) fn split_line(text: &[u8]) -> (&[u8], &[u8])
+pub fn split_line(text: &[u8]) -> (&[u8], &[u8])
     requires { 0 < length text.now }
     ensures lines { lines_of text.now ≡ result.0.now ∷ lines_of result.1.now }
     ensures bytes { (text.now ≡ result.0.now ++ 10 ∷ result.1.now) ⊎ ((text.now ≡ result.0.now) × (result.1.now ≡ [])) }
@@ -37,7 +37,7 @@ fn is_cut_line(line: &[u8]) -> bool
 }
 
 /// The program's part of a text, and what follows the first line `---`, where there is one.
-pub(crate) fn cut_text(text: &[u8]) -> (&[u8], Option<&[u8]>)
+pub fn cut_text(text: &[u8]) -> (&[u8], Option<&[u8]>)
     ensures cut { IfSome result.1 (λ after. IsCutAs text.now result.0.now after.now) }
     ensures whole { IfNone result.1 ((result.0.now ≡ text.now) × HasNoCut text.now) }
     ensures shorter { length result.0.now ≤ length text.now }
@@ -83,7 +83,7 @@ fn number_of(word: &[u8]) -> Option<u32>
 }
 
 /// The number in a line `triple K`.
-pub(crate) fn triple_in(line: &[u8]) -> Option<u32>
+pub fn triple_in(line: &[u8]) -> Option<u32>
     ensures some { IfSome result (λ number. IsTripleLine line.now number × (0 < number)) }
     ensures none { IfNone result ((number : ℕ) → IsTripleLine line.now number → ⊥) }
 {

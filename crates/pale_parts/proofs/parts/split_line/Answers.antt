@@ -2,8 +2,8 @@ use Rattle.std.proofs.Common.{◌≡◌, ◌∷◌, ◌++◌, inl, suc, ◌+◌,
 use Rattle.std.proofs.lemmas.List.{drop_all}
 use Rattle.store_text.specs.Lines.{lines_of}
 use Rattle.store_text.proofs.LineLemmas.{lines_of-at, lines_of-whole, rest_from}
-use Rattle.pale_replay.proofs.PartLemmas.{cut_at_lf}
-use Rattle.pale_replay.proofs.parts.split_line.Goals as goal
+use Rattle.pale_parts.proofs.PartLemmas.{cut_at_lf}
+use Rattle.pale_parts.proofs.parts.split_line.Goals as goal
 
 pub returns-in-Some-clause-lines : goal.returns-in-Some-clause-lines
 returns-in-Some-clause-lines c =

@@ -1,6 +1,6 @@
 use Rattle.std.proofs.Common.{length, ◌-◌}
-use Rattle.pale_replay.proofs.PartLemmas.{Looked}
-use Rattle.pale_replay.proofs.parts.cut_text.Given as goal
+use Rattle.pale_parts.proofs.PartLemmas.{Looked}
+use Rattle.pale_parts.proofs.parts.cut_text.Given as goal
 
 abbrev pub invariant-loop-start : goal.invariant-loop-start
 invariant-loop-start l = Looked l.text l.start

@@ -1,8 +1,8 @@
 use Rattle.std.proofs.Common.{◌∙◌, ap, ◌++◌, ℕ, List, Some}
 use Rattle.std.proofs.lemmas.Bool.Decides.{Decides-eqb}
 use Rattle.std.proofs.lemmas.Slice.Eq.{strip_prefix_is}
-use Rattle.pale_replay.proofs.PartLemmas.{counted}
-use Rattle.pale_replay.proofs.parts.triple_in.Goals as goal
+use Rattle.pale_parts.proofs.PartLemmas.{counted}
+use Rattle.pale_parts.proofs.parts.triple_in.Goals as goal
 
 pub returns-clause-some : goal.returns-clause-some
 returns-clause-some c =

@@ -15,7 +15,7 @@ use Rattle.store_core.proofs.Names.{position-cons}
 use Rattle.routing_walks.proofs.GatheringLemmas.{Contains-one}
 use Rattle.store_text.specs.Lines.{lines_of}
 use Rattle.store_text.specs.Spelling.{number_of, number_after}
-use Rattle.pale_replay.specs.Parts.{cut_line, HasNoCut, IsCutAs, IsTripleLine}
+use Rattle.pale_parts.specs.Parts.{cut_line, HasNoCut, IsCutAs, IsTripleLine}
 
 -- ---- lines
 

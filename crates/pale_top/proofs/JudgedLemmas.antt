@@ -1,0 +1,136 @@
+-- A text that asks for something of its program is answered by what is said of that.
+use Rattle.std.proofs.Common.{◌≡◌, ◌∙◌, ◌⊎◌, inl, inr, ◌<◌, ◌≤◌, ℕ, List, [], ◌∷◌, length, Some, slice_get, drop, refl, sym, ap, subst, arith}
+use Rattle.std.specs.Prelude.{codes}
+use Rattle.std.proofs.lemmas.Option.{same_Some}
+use Rattle.pale_text.specs.declared.refusal.Refusal.{Refusal}
+use Rattle.pale_text.specs.declared.refusal.TextStop.TheVariants as stop
+use Rattle.store_core.specs.Tables.{TypeEntry}
+use Rattle.store_exec.specs.declared.triple.Triple.{Triple}
+use Rattle.store_text.specs.Lines.{lines_of}
+use Rattle.store_text.specs.Spelling.{number_of}
+use Rattle.pale_typed.specs.TypedPrograms.{TypedProgram}
+use Rattle.whole_program.specs.ProgramTexts.{IsReadAs, IsRefusedAs}
+use Rattle.pale_parts.specs.Parts.{IsCutAs, IsTripleLine}
+use Rattle.pale_parts.specs.declared.request.Request.{Request}
+use Rattle.pale_parts.specs.declared.request.Request.TheVariants as request
+use Rattle.pale_parts.specs.declared.request.RequestFault.{RequestFault}
+use Rattle.pale_parts.specs.Requests.{Asks, fields, triple, IsRequest, IsRequestFault, nothing, no_form, no_triple, too_much}
+use Rattle.pale_replay.specs.Replaying.{IsReplayStop, uncut_stop, cut_stop}
+use Rattle.pale_modes.specs.declared.status.Status.{Status}
+use Rattle.pale_modes.specs.Texts.{most_bytes}
+use Rattle.pale_modes.proofs.CutLemmas.{one_cut, cut_or_not}
+use Rattle.program_judge.specs.declared.ways.FieldWay.{FieldWay}
+use Rattle.program_judge.specs.declared.ways.TripleWay.{TripleWay}
+use Rattle.program_judge.specs.declared.ways.TripleWay.TheVariants as tripled
+use Rattle.program_judge.specs.Reports.{pointer_fields, ReportsFields, ReportsTriple}
+use Rattle.program_promises.specs.Completeness.{IsTripleWithin}
+use Rattle.program_promises.specs.Telling.{TellsFields}
+use Rattle.pale_top.specs.Judging.{Judges, too_long, refused, uncut, no_request, judged, JudgesRequest, status_of_way}
+use Rattle.pale_top.specs.Judging as judging
+use Rattle.pale_top.specs.Completing.{SpellsRequest, JudgesEach, some_field, each_field, one_triple}
+
+-- what the layers below say of readings and of reports
+pub record Laws : Type 0 where
+  pub one : (text : List ℕ) (program other : TypedProgram) (triples others : List Triple) → IsReadAs text program triples →
+      IsReadAs text other others → (program ≡ other) × (triples ≡ others)
+  pub apart : (text : List ℕ) (program : TypedProgram) (triples : List Triple) (refusal : Refusal) → IsReadAs text program triples →
+      IsRefusedAs text refusal → ⊥
+  pub fields : (limit : ℕ) (types : List TypeEntry) (lines : List ℕ) (ways : List FieldWay) →
+      ReportsFields limit types (pointer_fields types) lines ways → TellsFields limit types lines ways
+  pub triple : (limit : ℕ) (program : TypedProgram) (k : ℕ) (t : Triple) (lines : List ℕ) (how : TripleWay) →
+      ReportsTriple limit program k t lines how → IsTripleWithin limit program t → (how ≡ tripled.Valid) ⊎ (how ≡ tripled.Invalid)
+
+-- ---- a line asks for one thing
+
+one-number : (line : List ℕ) (n m : ℕ) → IsTripleLine line n → IsTripleLine line m → n ≡ m
+one-number line n m one other =
+    let same : one.word ≡ other.word = ap (drop 7) (sym one.spelled ∙ other.spelled) in
+    same_Some n m (sym one.counted ∙ ap number_of same ∙ other.counted)
+
+-- `fields` names no triple
+no-fields : (line : List ℕ) (number : ℕ) → line ≡ codes "fields" → IsTripleLine line number → ⊥
+no-fields line number is named =
+    let bad : codes "fields" ≡ codes "triple " ++ named.word = sym is ∙ named.spelled in
+    absurd (cc)
+
+one-request : (triples : ℕ) (line : List ℕ) (r q : Request) → Asks triples line r → Asks triples line q → r ≡ q
+one-request triples line _ _ (fields is) (fields other) = refl
+one-request triples line _ _ (fields is) (triple n named some within) = absurd (no-fields line n is named)
+one-request triples line _ _ (triple n named some within) (fields is) = absurd (no-fields line n is named)
+one-request triples line _ _ (triple n named some within) (triple m other any inside) = ap request.Triple (one-number line n m named other)
+
+one-asked : (triples : ℕ) (lines : List (List ℕ)) (r q : Request) → IsRequest triples lines r → IsRequest triples lines q → r ≡ q
+one-asked triples lines r q (line, is, asks) (other, same, more) =
+    let here : other ≡ line = same_first (sym same ∙ is) in
+    one-request triples line r q asks (subst (λ (l : List ℕ). Asks triples l q) here more)
+  where
+    same_first : other ∷ [] ≡ line ∷ [] → other ≡ line
+    same_first e = cc
+
+-- and what asks for something isn't refused
+not-refused : (triples : ℕ) (lines : List (List ℕ)) (r : Request) (fault : RequestFault) → IsRequest triples lines r → IsRequestFault triples lines fault → ⊥
+not-refused triples _ r _ (line, is, asks) nothing = absurd (cc)
+not-refused triples _ r _ (line, is, asks) (no_form first more none other) =
+    let here : line ≡ first = cc in
+    formless (subst (λ (l : List ℕ). Asks triples l r) here asks)
+  where
+    formless : Asks triples first r → ⊥
+    formless (fields same) = none same
+    formless (triple n named some within) = other n named
+not-refused triples _ r _ (line, is, asks) (no_triple first more number named over) =
+    let here : line ≡ first = cc in
+    unknown r (subst (λ (l : List ℕ). Asks triples l r) here asks)
+  where
+    unknown : (q : Request) → Asks triples first q → ⊥
+    unknown _ (fields same) = no-fields first number same named
+    unknown _ (triple n again some within) = let same = one-number first n number again named in omega (arith, same, within, over)
+not-refused triples _ r _ (line, is, asks) (too_much first second more other also) = absurd (cc)
+
+-- ---- whole texts
+
+module _ (laws : Laws) (text : List ℕ) (limit : ℕ) (program : TypedProgram) (triples : List Triple) (r : Request)
+    (spells : SpellsRequest text program triples r) where
+  not-stopped : (refusal : Refusal) → IsReplayStop text (stop.Refused refusal) → ⊥
+  not-stopped refusal (uncut_stop none is) = cut_or_not text spells.part spells.after spells.cut none
+  not-stopped refusal (cut_stop part after again is) =
+      let same = one_cut text part spells.part after spells.after again spells.cut in
+      laws.apart spells.part program triples refusal spells.read (subst (λ (p : List ℕ). IsRefusedAs p refusal) same.0 is)
+
+  told : (lines : List ℕ) (status : Status) → JudgesRequest limit program triples r lines status → JudgesEach limit program triples r lines status
+  told _ _ (judging.stopped _ lines ways reports some) = some_field r lines ways (laws.fields limit program.types lines ways reports) some
+  told _ _ (judging.fields every) = each_field every
+  told _ _ (judging.triple place t lines how every there report) =
+      one_triple place t lines how every there report (laws.triple limit program (suc place) t lines how report)
+
+  module _ (part after : List ℕ) (other : TypedProgram) (others : List Triple) (again : IsCutAs text part after) (read : IsReadAs part other others) where
+    parts : (part ≡ spells.part) × (lines_of after ≡ lines_of spells.after)
+    parts = one_cut text part spells.part after spells.after again spells.cut
+
+    same : (other ≡ program) × (others ≡ triples)
+    same = laws.one spells.part other program others triples (subst (λ (p : List ℕ). IsReadAs p other others) parts.0 read) spells.read
+
+    unrefused : (fault : RequestFault) → IsRequestFault (length others) (lines_of after) fault → ⊥
+    unrefused fault bad =
+        let here = subst (λ (ls : List (List ℕ)). IsRequestFault (length others) ls fault) parts.1 bad in
+        not-refused (length triples) (lines_of spells.after) r fault spells.asked
+        (subst (λ (ts : List Triple). IsRequestFault (length ts) (lines_of spells.after) fault) same.1 here)
+
+    answered : (q : Request) (lines : List ℕ) (status : Status) → IsRequest (length others) (lines_of after) q →
+        JudgesRequest limit other others q lines status → JudgesEach limit program triples r lines status
+    answered q lines status asked judges =
+        let here = subst (λ (ls : List (List ℕ)). IsRequest (length others) ls q) parts.1 asked in
+        let asks = subst (λ (ts : List Triple). IsRequest (length ts) (lines_of spells.after) q) same.1 here in
+        let one = one-asked (length triples) (lines_of spells.after) q r asks spells.asked in
+        let of_program = subst (λ (p : TypedProgram). JudgesRequest limit p others q lines status) same.0 judges in
+        let of_triples = subst (λ (ts : List Triple). JudgesRequest limit program ts q lines status) same.1 of_program in
+        told lines status (subst (λ (x : Request). JudgesRequest limit program triples x lines status) one of_triples)
+
+  pub judged_each : (output : List ℕ) (status : Status) → length text ≤ most_bytes → Judges limit text output status →
+      JudgesEach limit program triples r output status
+  judged_each _ _ short (too_long more) = absurd (omega (arith, more, short))
+  judged_each _ _ short (refused refusal within stopped) = absurd (not-stopped refusal stopped)
+  judged_each _ _ short (uncut other others within none read) = absurd (cut_or_not text spells.part spells.after spells.cut none)
+  judged_each _ _ short (no_request part after other others fault within again read bad) =
+      absurd (unrefused part after other others again read fault bad)
+  judged_each _ _ short (judged part after other others q lines status within again read asked judges) =
+      answered part after other others again read q lines status asked judges

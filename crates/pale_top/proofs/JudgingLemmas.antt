@@ -1,0 +1,146 @@
+-- What `judge` has written, between the reports on the fields and what was asked for.
+use Rattle.std.proofs.Common.{◌≡◌, ◌∙◌, ◌+◌, ◌-◌, ◌<◌, ◌≤◌, ◌++◌, ℕ, suc, Bool, true, false, List, [], ◌∷◌, length, take, Option, Some, inl, inr, refl, sym, ap, subst, arith}
+use Rattle.std.proofs.Common.{append-nil, length-append}
+use Rattle.std.specs.Prelude.{All, slice_get}
+use Rattle.std.specs.List.{list_all}
+use Rattle.store_core.specs.declared.ids.FieldId.{FieldId}
+use Rattle.store_exec.specs.declared.triple.Triple.{Triple}
+use Rattle.witness_store.specs.Alike.{AreFunctional}
+use Rattle.pale_typed.specs.TypedPrograms.{TypedProgram}
+use Rattle.pale_typed.specs.Fitting.{ProgramFits}
+use Rattle.hoare_split.specs.Fitting.{FitsProgram}
+use Rattle.pale_io.specs.Told.{appended}
+use Rattle.pale_io.specs.Whole.{WritesAll, WritesFront}
+use Rattle.pale_parts.specs.declared.request.Request.{Request}
+use Rattle.pale_parts.specs.declared.request.Request.TheVariants as request
+use Rattle.pale_parts.specs.Requests.{Asks, fields, triple, IsRequest}
+use Rattle.pale_modes.specs.declared.status.Status.{Status}
+use Rattle.pale_modes.specs.Written.{Wrote, WroteAtMost}
+use Rattle.pale_modes.proofs.WrittenLemmas.{nothing_written, both_written, front_of_first, first_written, front_of_second}
+use Rattle.program_judge.specs.declared.ways.FieldWay.{FieldWay}
+use Rattle.program_judge.specs.declared.ways.TripleWay.{TripleWay}
+use Rattle.program_judge.specs.Lines.{stopped_line}
+use Rattle.program_judge.specs.Reports.{pointer_fields, is_functional, stopped_ending, ReportsFields, ReportsTriple}
+use Rattle.program_judge.proofs.EndingLemmas.{fields-more, functional-silent}
+use Rattle.pale_top.specs.Checking.{status_of, WroteFields, behind, inside}
+use Rattle.pale_top.specs.Judging.{JudgesRequest, stopped, status_of_way}
+use Rattle.pale_top.specs.Judging as judging
+
+-- ---- nothing written
+
+-- where nothing is all that was written, what the sink told is the same
+nothing_added : (a b : Option (List ℕ)) (lines : List ℕ) → lines ≡ [] → WritesAll a b lines → b ≡ a
+nothing_added a b lines is written = written.added ∙ (ap (appended a) is ∙ sym (nothing_written a).added)
+
+-- a list of which no more than nothing is there
+nothing_first : (lines more : List ℕ) → lines ++ more ≡ [] → lines ≡ []
+nothing_first [] more is = refl
+nothing_first (x ∷ lines) more is = absurd (cc)
+
+no_front : (a b : Option (List ℕ)) (lines : List ℕ) → lines ≡ [] → WritesFront a b lines → ⊥
+no_front a b lines is front =
+    let below : front.count < length lines = front.within in
+    let none : length lines ≡ 0 = ap length is in
+    omega arith
+
+module _ (limit : ℕ) (program : TypedProgram) (triples : List Triple) (r : Request) (a : Option (List ℕ)) where
+  abbrev Allowed : List ℕ → Status → Type 0
+  Allowed = JudgesRequest limit program triples r
+
+  -- ---- the fields
+
+  -- all reports on the fields are there, and some field isn't told to be functional
+  pub stopped_begins : (b c : Option (List ℕ)) (ways : List FieldWay) → Wrote (ReportsFields limit program.types (pointer_fields program.types)) a b ways →
+      list_all is_functional ways ≡ false → WritesFront b c stopped_line → WroteAtMost Allowed a c
+  stopped_begins b c ways before some front = inr (record {
+    output = before.output ++ stopped_line;
+    status = status_of (stopped_ending ways);
+    allowed = stopped r before.output ways before.allowed some;
+    written = front_of_second a b c before.output stopped_line before.written front;
+  })
+
+  pub stopped_whole : (b c : Option (List ℕ)) (ways : List FieldWay) → Wrote (ReportsFields limit program.types (pointer_fields program.types)) a b ways →
+      list_all is_functional ways ≡ false → WritesAll b c stopped_line → Wrote Allowed a c (status_of (stopped_ending ways))
+  stopped_whole b c ways before some whole = record {
+    output = before.output ++ stopped_line;
+    allowed = stopped r before.output ways before.allowed some;
+    written = both_written a b c before.output stopped_line before.written whole;
+  }
+
+  -- a stop among the fields
+  module _ (fits : ProgramFits program) (own : All (FitsProgram program) triples) where
+    whole_by : (c : Option (List ℕ)) (lines l : List ℕ) (ways : List FieldWay) → WritesAll a c lines →
+        ReportsFields limit program.types (pointer_fields program.types) (lines ++ l) ways → (b : Bool) → list_all is_functional ways ≡ b →
+        WroteAtMost Allowed a c
+    whole_by c lines l ways written all true good =
+        inl (nothing_added a c lines (nothing_first lines l (functional-silent limit program.types (pointer_fields program.types) (lines ++ l) ways all good)) written)
+    whole_by c lines l ways written all false some =
+        let count : 0 < length stopped_line = omega arith in
+        inr (record {
+          output = (lines ++ l) ++ stopped_line;
+          status = status_of (stopped_ending ways);
+          allowed = stopped r (lines ++ l) ways all some;
+          written = subst (λ (output : List ℕ). WritesFront a c output) (sym (append_assoc lines l stopped_line))
+              (first_written a c lines (l ++ stopped_line) written (omega (arith, count, length-append l stopped_line)));
+        })
+
+    front_by : (c : Option (List ℕ)) (lines l : List ℕ) (ways : List FieldWay) → WritesFront a c lines →
+        ReportsFields limit program.types (pointer_fields program.types) (lines ++ l) ways → (b : Bool) → list_all is_functional ways ≡ b →
+        WroteAtMost Allowed a c
+    front_by c lines l ways front all true good =
+        absurd (no_front a c lines (nothing_first lines l (functional-silent limit program.types (pointer_fields program.types) (lines ++ l) ways all good)) front)
+    front_by c lines l ways front all false some = inr (record {
+      output = (lines ++ l) ++ stopped_line;
+      status = status_of (stopped_ending ways);
+      allowed = stopped r (lines ++ l) ways all some;
+      written = front_of_first a c (lines ++ l) stopped_line (front_of_first a c lines l front);
+    })
+
+    pub fields_cut : (c : Option (List ℕ)) → WroteFields limit program.types a c → WroteAtMost Allowed a c
+    fields_cut c (behind done rest ways split before) =
+        let (l, all, whole) = fields-more limit program triples fits own done rest split before.output ways before.allowed in
+        whole_by c before.output l all before.written whole (list_all is_functional all) refl
+    fields_cut c (inside done rest lines ways split reports front) =
+        let (l, all, whole) = fields-more limit program triples fits own done rest split lines ways reports in
+        front_by c lines l all front whole (list_all is_functional all) refl
+
+  -- ---- what was asked for
+
+  -- behind fields that are told to be functional nothing was written
+  pub behind_fields : (b : Option (List ℕ)) (ways : List FieldWay) → Wrote (ReportsFields limit program.types (pointer_fields program.types)) a b ways →
+      list_all is_functional ways ≡ true → b ≡ a
+  behind_fields b ways before good =
+      nothing_added a b before.output (functional-silent limit program.types (pointer_fields program.types) before.output ways before.allowed good) before.written
+
+-- the fields were asked for
+pub fields_judged : (limit : ℕ) (program : TypedProgram) (triples : List Triple) (a : Option (List ℕ)) → AreFunctional program.types →
+    Wrote (JudgesRequest limit program triples request.Fields) a a Good
+fields_judged limit program triples a every = record { output = []; allowed = judging.fields every; written = nothing_written a }
+
+-- the triple of a request is there
+pub asked_there : (triples : ℕ) (lines : List (List ℕ)) (number : ℕ) → IsRequest triples lines (request.Triple number) → (0 < number) × (number ≤ triples)
+asked_there triples lines _ (line, one, triple number spelled some within) = (some, within)
+
+module _ (limit : ℕ) (program : TypedProgram) (triples : List Triple) (number : ℕ) (t : Triple) (a b : Option (List ℕ)) (some : 0 < number)
+    (every : AreFunctional program.types) (there : slice_get triples (number - 1) ≡ Some t) where
+  again : suc (number - 1) ≡ number
+  again = omega arith
+
+  allowed_for : (lines : List ℕ) (how : TripleWay) → ReportsTriple limit program number t lines how →
+      JudgesRequest limit program triples (request.Triple number) lines (status_of_way how)
+  allowed_for lines how report =
+      subst (λ (n : ℕ). JudgesRequest limit program triples (request.Triple n) lines (status_of_way how)) again
+      (judging.triple (number - 1) t lines how every there (subst (λ (n : ℕ). ReportsTriple limit program n t lines how) (sym again) report))
+
+  pub triple_judged : (how : TripleWay) → Wrote (ReportsTriple limit program number t) a b how →
+      Wrote (JudgesRequest limit program triples (request.Triple number)) a b (status_of_way how)
+  triple_judged how wrote = record { output = wrote.output; allowed = allowed_for wrote.output how wrote.allowed; written = wrote.written }
+
+  pub triple_begun : WroteAtMost (ReportsTriple limit program number t) a b → WroteAtMost (JudgesRequest limit program triples (request.Triple number)) a b
+  triple_begun (inl same) = inl same
+  triple_begun (inr front) = inr (record {
+    output = front.output;
+    status = status_of_way front.status;
+    allowed = allowed_for front.output front.status front.allowed;
+    written = front.written;
+  })
