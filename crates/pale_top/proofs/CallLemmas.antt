@@ -11,7 +11,7 @@ use Rattle.pale_io.specs.declared.stops.WriteStop.TheVariants.{Failed, NoMemory}
 use Rattle.store_exec.specs.declared.triple.Triple.{Triple}
 use Rattle.pale_typed.specs.TypedPrograms.{TypedProgram}
 use Rattle.pale_words.specs.declared.words.Mode.{Mode}
-use Rattle.pale_words.specs.declared.words.Mode.TheVariants.{Check, Replay, Format, Ws2s, Judge, Gen}
+use Rattle.pale_words.specs.declared.words.Mode.TheVariants.{Check, Replay, Format, Ws2s, Judge, Meet, Gen}
 use Rattle.pale_words.specs.declared.words.Settings.{Settings}
 use Rattle.pale_words.specs.Words.{AsksFor, Gives, IsRefused}
 use Rattle.pale_words.proofs.GivesLemmas.{not_refused, same_mode}
@@ -32,11 +32,17 @@ use Rattle.pale_top.specs.Checking as checking
 use Rattle.pale_top.specs.Output.{Answers, Begins, CallOutput, IsAnswer, IsCutShort, Output}
 use Rattle.pale_top.specs.Judging.{Judges, JudgesRequest}
 use Rattle.pale_top.specs.Judging as judging
+use Rattle.pale_top.specs.Meeting.{MeetsText, MeetsProgram}
+use Rattle.pale_top.specs.Meeting as meeting
+use Rattle.program_meet.specs.declared.ways.MeetWay.{MeetWay}
+use Rattle.program_meet.specs.Meets.{is_empty, is_at_limit}
+use Rattle.std.specs.List.{list_any}
+use Rattle.std.proofs.Common.{Bool, true, false, if◌then◌else◌}
 use Rattle.pale_parts.specs.declared.request.Request.{Request}
 use Rattle.program_judge.specs.declared.ways.TripleWay.{TripleWay}
 use Rattle.program_judge.specs.declared.ways.TripleWay.TheVariants as tripled
 use Rattle.program_judge.specs.Reports.{stopped_ending}
-use Rattle.pale_top.specs.Output.{check, replay, format, ws2s, judge, generated, refused, given}
+use Rattle.pale_top.specs.Output.{check, replay, format, ws2s, judge, meet, generated, refused, given}
 use Rattle.pale_top.specs.Generating.{Gens, Tells}
 use Rattle.pale_top.specs.Generating as generating
 
@@ -104,6 +110,24 @@ judges_given limit text output status (judging.no_request part after program tri
 judges_given limit text output status (judging.judged part after program triples r lines s within cut is asked judges) =
     judged_given limit program triples r lines s judges
 
+meet_status_given : (ways : List MeetWay) → IsGiven (meeting.meet_status ways)
+meet_status_given ways = by (list_any is_empty ways) (list_any is_at_limit ways)
+  where
+    by : (some full : Bool) → IsGiven (if some then Bad else (if full then Limit else Good))
+    by true full = tt
+    by false true = tt
+    by false false = tt
+
+met_given : (limit : ℕ) (program : TypedProgram) (triples : List Triple) (output : List ℕ) (status : Status) →
+    MeetsProgram limit program triples output status → IsGiven status
+met_given limit program triples _ _ (meeting.stopped lines ways reports some) = ending_given (stopped_ending ways)
+met_given limit program triples _ _ (meeting.told lines ways every reports) = meet_status_given ways
+
+meets_given : (limit : ℕ) (text output : List ℕ) (status : Status) → MeetsText limit text output status → IsGiven status
+meets_given limit text output status (meeting.too_long more) = tt
+meets_given limit text output status (meeting.refused refusal within is) = tt
+meets_given limit text output status (meeting.met program triples o s within is meets) = met_given limit program triples o s meets
+
 told_given : (limit seed : ℕ) (program : TypedProgram) (triples : List Triple) (output : List ℕ) (status : Status) →
     Tells limit seed program triples output status → IsGiven status
 told_given limit seed program triples _ _ (generating.told ways how counts) = ending_given how
@@ -119,6 +143,7 @@ output_given settings text output status (replay is written answer replays) = re
 output_given settings text output status (format is written answer formats) = formatted_given text output status formats
 output_given settings text output status (ws2s is written answer decides) = decided_given settings.limit text output status decides
 output_given settings text output status (judge is written answer judges) = judges_given settings.limit text output status judges
+output_given settings text output status (meet is written answer meets) = meets_given settings.limit text output status meets
 output_given settings text output status (generated is written answer gens) = generated_given settings.limit settings.seed output status gens
 
 -- each is an answer
@@ -202,6 +227,7 @@ too_long_output settings text reads more = by_mode settings.mode refl
     by_mode Format is = format is too_long_line Text (formatting.too_long more)
     by_mode Ws2s is = ws2s is too_long_line Text (deciding.too_long more)
     by_mode Judge is = judge is too_long_line Text (judging.too_long more)
+    by_mode Meet is = meet is too_long_line Text (meeting.too_long more)
     by_mode Gen is = absurd (reads is)
 
 -- ---- a call that says one line
@@ -243,6 +269,7 @@ generated_for_all settings asks text other output status (replay is written answ
 generated_for_all settings asks text other output status (format is written answer formats) = (let bad : Gen ≡ Format = sym asks ∙ is in absurd (cc))
 generated_for_all settings asks text other output status (ws2s is written answer decides) = (let bad : Gen ≡ Ws2s = sym asks ∙ is in absurd (cc))
 generated_for_all settings asks text other output status (judge is written answer judges) = (let bad : Gen ≡ Judge = sym asks ∙ is in absurd (cc))
+generated_for_all settings asks text other output status (meet is written answer meets) = (let bad : Gen ≡ Meet = sym asks ∙ is in absurd (cc))
 generated_for_all settings asks text other output status (generated is written answer gens) = generated is written answer gens
 
 -- what they give for one text they give for each

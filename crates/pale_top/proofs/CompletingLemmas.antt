@@ -13,7 +13,7 @@ use Rattle.ws2s_syntax.specs.Checked as checked
 use Rattle.pale_generator.specs.Generated.{program_text}
 use Rattle.pale_io.specs.Whole.{WritesAll}
 use Rattle.pale_words.specs.declared.words.Mode.{Mode}
-use Rattle.pale_words.specs.declared.words.Mode.TheVariants.{Check, Replay, Format, Ws2s, Judge, Gen}
+use Rattle.pale_words.specs.declared.words.Mode.TheVariants.{Check, Replay, Format, Ws2s, Judge, Meet, Gen}
 use Rattle.pale_words.specs.declared.words.Settings.{Settings}
 use Rattle.pale_words.specs.Words.{AsksFor, Gives, IsRefused}
 use Rattle.pale_words.proofs.GivesLemmas.{not_refused, same_limit, same_mode}
@@ -35,13 +35,17 @@ use Rattle.program_judge.specs.declared.ways.TripleWay.TheVariants as tripled
 use Rattle.program_promises.specs.Completeness.{IsTripleWithin}
 use Rattle.program_promises.specs.Telling.{TellsFields, TellsTriples, TellsProgram}
 use Rattle.pale_top.specs.Checking.{Checks, too_long, refused, judged}
-use Rattle.pale_top.specs.Completing.{ChecksEach, Completes, CountsEach, GensEach}
+use Rattle.pale_top.specs.Completing.{ChecksEach, Completes, CountsEach, GensEach, MeetsEach}
 use Rattle.pale_top.specs.Completing as counting
 use Rattle.pale_top.specs.Judging.{Judges}
+use Rattle.pale_top.specs.Meeting.{MeetsText, MeetsProgram}
+use Rattle.pale_top.specs.Meeting as meeting
+use Rattle.program_meet.specs.declared.ways.MeetWay.{MeetWay}
+use Rattle.program_meet.specs.Meets.{ReportsMeets, AreStartsDecided}
 use Rattle.pale_top.proofs.JudgedLemmas as judged
 use Rattle.pale_top.specs.Generating.{Counts, Gens, Tells}
 use Rattle.pale_top.specs.Generating as generating
-use Rattle.pale_top.specs.Output.{CallOutput, Output, check, replay, format, ws2s, judge, generated}
+use Rattle.pale_top.specs.Output.{CallOutput, Output, check, replay, format, ws2s, judge, meet, generated}
 use Rattle.pale_top.specs.Output as called
 
 -- what the layers below say of readings, reports and outputs
@@ -58,6 +62,8 @@ pub record Laws : Type 0 where
       ReportsTriple limit program k t lines how → IsTripleWithin limit program t → (how ≡ tripled.Valid) ⊎ (how ≡ tripled.Invalid)
   pub program : (limit : ℕ) (program : TypedProgram) (triples : List Triple) (output : List ℕ) (how : Ending) →
       ReportsProgram limit program triples output how → TellsProgram limit program triples output how
+  pub starts : (limit : ℕ) (program : TypedProgram) (triples : List Triple) (lines : List ℕ) (ways : List MeetWay) →
+      ReportsMeets limit program 1 triples lines ways → AreStartsDecided limit program triples ways
   pub spelled : (text one other : List ℕ) (status another : Status) → Formats text one status → Formats text other another →
       (one ≡ other) × (status ≡ another)
   pub decided : (limit : ℕ) (text output : List ℕ) (status : Status) (tree : checked.Text) → length text ≤ most_bytes →
@@ -76,6 +82,7 @@ OutputOf Replay limit seed text output status = Replays text output status
 OutputOf Format limit seed text output status = Formats text output status
 OutputOf Ws2s limit seed text output status = Decides limit text output status
 OutputOf Judge limit seed text output status = Judges limit text output status
+OutputOf Meet limit seed text output status = MeetsText limit text output status
 OutputOf Gen limit seed text output status = Gens limit seed output status
 
 output_of : (settings : Settings) (mode : Mode) → settings.mode ≡ mode → (text output : List ℕ) (status : Status) →
@@ -90,6 +97,8 @@ output_of settings mode asks text output status (ws2s is written answer decides)
     subst (λ (m : Mode). OutputOf m settings.limit settings.seed text output status) (sym is ∙ asks) decides
 output_of settings mode asks text output status (judge is written answer judges) =
     subst (λ (m : Mode). OutputOf m settings.limit settings.seed text output status) (sym is ∙ asks) judges
+output_of settings mode asks text output status (meet is written answer meets) =
+    subst (λ (m : Mode). OutputOf m settings.limit settings.seed text output status) (sym is ∙ asks) meets
 output_of settings mode asks text output status (generated is written answer gens) =
     subst (λ (m : Mode). OutputOf m settings.limit settings.seed text output status) (sym is ∙ asks) gens
 
@@ -114,6 +123,22 @@ module _ (laws : Laws) (text : List ℕ) (short : length text ≤ most_bytes) wh
       let moved = subst (λ (p : TypedProgram). ReportsProgram limit p others output how) same.0 reports in
       let whole = subst (λ (ts : List Triple). ReportsProgram limit program ts output how) same.1 moved in
       record { how = how; tells = laws.program limit program triples output how whole; ends = refl }
+
+  met_told : (limit : ℕ) (program : TypedProgram) (triples : List Triple) (output : List ℕ) (status : Status) →
+      MeetsProgram limit program triples output status → MeetsEach limit program triples output status
+  met_told limit program triples _ _ (meeting.stopped lines ways reports some) =
+      counting.some_field lines ways (laws.fields limit program.types lines ways reports) some
+  met_told limit program triples _ _ (meeting.told lines ways every reports) =
+      counting.each_start lines ways every reports (laws.starts limit program triples lines ways reports)
+
+  meets_each : (limit : ℕ) (program : TypedProgram) (triples : List Triple) → IsReadAs text program triples → (output : List ℕ) (status : Status) →
+      MeetsText limit text output status → MeetsEach limit program triples output status
+  meets_each limit program triples read _ _ (meeting.too_long more) = absurd (omega (arith, more, short))
+  meets_each limit program triples read _ _ (meeting.refused refusal most stop) = absurd (laws.apart text program triples refusal read stop)
+  meets_each limit program triples read _ _ (meeting.met other others output status most again meets) =
+      let same = laws.one text other program others triples again read in
+      let moved = subst (λ (p : TypedProgram). MeetsProgram limit p others output status) same.0 meets in
+      met_told limit program triples output status (subst (λ (ts : List Triple). MeetsProgram limit program ts output status) same.1 moved)
 
   spells_program : (tree : Program) → IsTextOf text tree → (output : List ℕ) (status : Status) → Formats text output status →
       (output ≡ spelling tree) × (status ≡ Good)
@@ -140,6 +165,11 @@ module _ (laws : Laws) (text : List ℕ) (short : length text ≤ most_bytes) wh
       output = wrote.output;
       allowed = judged.judged_each (record { one = laws.one; apart = laws.apart; fields = laws.fields; triple = laws.triple }) text settings.limit program triples r spells
           wrote.output status short (by Judge asks);
+      written = wrote.written;
+    };
+    meet = λ asks program triples read. record {
+      output = wrote.output;
+      allowed = meets_each settings.limit program triples read wrote.output status (by Meet asks);
       written = wrote.written;
     };
     format = λ asks tree is.
@@ -204,6 +234,7 @@ none_completed settings gen text before after status = record {
   check = λ asks program triples read. absurd (let bad : Check ≡ Gen = sym asks ∙ gen in cc);
   ws2s = λ asks tree within. absurd (let bad : Ws2s ≡ Gen = sym asks ∙ gen in cc);
   judge = λ asks program triples r spells. absurd (let bad : Judge ≡ Gen = sym asks ∙ gen in cc);
+  meet = λ asks program triples read. absurd (let bad : Meet ≡ Gen = sym asks ∙ gen in cc);
   replay = λ asks program t e s spells. absurd (let bad : Replay ≡ Gen = sym asks ∙ gen in cc);
   format = λ asks tree is. absurd (let bad : Format ≡ Gen = sym asks ∙ gen in cc);
 }

@@ -1,9 +1,10 @@
--- What `judge` has written, between the reports on the fields and what was asked for.
+-- What `judge` and `meet` have written: the reports on the fields, and what was asked for.
 use Rattle.std.proofs.Common.{◌≡◌, ◌∙◌, ◌+◌, ◌-◌, ◌<◌, ◌≤◌, ◌++◌, ℕ, suc, Bool, true, false, List, [], ◌∷◌, length, take, Option, Some, inl, inr, refl, sym, ap, subst, arith}
-use Rattle.std.proofs.Common.{append-nil, length-append}
+use Rattle.std.proofs.Common.{append_assoc, length-append}
 use Rattle.std.specs.Prelude.{All, slice_get}
 use Rattle.std.specs.List.{list_all}
 use Rattle.store_core.specs.declared.ids.FieldId.{FieldId}
+use Rattle.store_core.specs.Tables.{TypeEntry}
 use Rattle.store_exec.specs.declared.triple.Triple.{Triple}
 use Rattle.witness_store.specs.Alike.{AreFunctional}
 use Rattle.pale_typed.specs.TypedPrograms.{TypedProgram}
@@ -23,7 +24,8 @@ use Rattle.program_judge.specs.Lines.{stopped_line}
 use Rattle.program_judge.specs.Reports.{pointer_fields, is_functional, stopped_ending, ReportsFields, ReportsTriple}
 use Rattle.program_judge.proofs.EndingLemmas.{fields-more, functional-silent}
 use Rattle.pale_top.specs.Checking.{status_of, WroteFields, behind, inside}
-use Rattle.pale_top.specs.Judging.{JudgesRequest, stopped, status_of_way}
+use Rattle.pale_modes.specs.declared.status.Status.TheVariants.{Good}
+use Rattle.pale_top.specs.Judging.{JudgesRequest, status_of_way}
 use Rattle.pale_top.specs.Judging as judging
 
 -- ---- nothing written
@@ -43,74 +45,72 @@ no_front a b lines is front =
     let none : length lines ≡ 0 = ap length is in
     omega arith
 
-module _ (limit : ℕ) (program : TypedProgram) (triples : List Triple) (r : Request) (a : Option (List ℕ)) where
-  abbrev Allowed : List ℕ → Status → Type 0
-  Allowed = JudgesRequest limit program triples r
+-- where the reports on fields that aren't all told to be functional may stand with `stopped at fields` behind them
+module _ (limit : ℕ) (program : TypedProgram) (Allowed : List ℕ → Status → Type 0) (stops : (lines : List ℕ) (ways : List FieldWay) →
+    ReportsFields limit program.types (pointer_fields program.types) lines ways → list_all is_functional ways ≡ false →
+    Allowed (lines ++ stopped_line) (status_of (stopped_ending ways))) (a : Option (List ℕ)) where
+  abbrev fs : List FieldId
+  fs = pointer_fields program.types
 
-  -- ---- the fields
-
-  -- all reports on the fields are there, and some field isn't told to be functional
-  pub stopped_begins : (b c : Option (List ℕ)) (ways : List FieldWay) → Wrote (ReportsFields limit program.types (pointer_fields program.types)) a b ways →
+  pub stopped_begins : (b c : Option (List ℕ)) (ways : List FieldWay) → Wrote (ReportsFields limit program.types fs) a b ways →
       list_all is_functional ways ≡ false → WritesFront b c stopped_line → WroteAtMost Allowed a c
   stopped_begins b c ways before some front = inr (record {
     output = before.output ++ stopped_line;
     status = status_of (stopped_ending ways);
-    allowed = stopped r before.output ways before.allowed some;
+    allowed = stops before.output ways before.allowed some;
     written = front_of_second a b c before.output stopped_line before.written front;
   })
 
-  pub stopped_whole : (b c : Option (List ℕ)) (ways : List FieldWay) → Wrote (ReportsFields limit program.types (pointer_fields program.types)) a b ways →
+  pub stopped_whole : (b c : Option (List ℕ)) (ways : List FieldWay) → Wrote (ReportsFields limit program.types fs) a b ways →
       list_all is_functional ways ≡ false → WritesAll b c stopped_line → Wrote Allowed a c (status_of (stopped_ending ways))
   stopped_whole b c ways before some whole = record {
     output = before.output ++ stopped_line;
-    allowed = stopped r before.output ways before.allowed some;
+    allowed = stops before.output ways before.allowed some;
     written = both_written a b c before.output stopped_line before.written whole;
   }
 
   -- a stop among the fields
-  module _ (fits : ProgramFits program) (own : All (FitsProgram program) triples) where
-    whole_by : (c : Option (List ℕ)) (lines l : List ℕ) (ways : List FieldWay) → WritesAll a c lines →
-        ReportsFields limit program.types (pointer_fields program.types) (lines ++ l) ways → (b : Bool) → list_all is_functional ways ≡ b →
-        WroteAtMost Allowed a c
-    whole_by c lines l ways written all true good =
-        inl (nothing_added a c lines (nothing_first lines l (functional-silent limit program.types (pointer_fields program.types) (lines ++ l) ways all good)) written)
-    whole_by c lines l ways written all false some =
-        let count : 0 < length stopped_line = omega arith in
-        inr (record {
-          output = (lines ++ l) ++ stopped_line;
-          status = status_of (stopped_ending ways);
-          allowed = stopped r (lines ++ l) ways all some;
-          written = subst (λ (output : List ℕ). WritesFront a c output) (sym (append_assoc lines l stopped_line))
-              (first_written a c lines (l ++ stopped_line) written (omega (arith, count, length-append l stopped_line)));
-        })
+  whole_by : (c : Option (List ℕ)) (lines l : List ℕ) (ways : List FieldWay) → WritesAll a c lines → ReportsFields limit program.types fs (lines ++ l) ways →
+      (b : Bool) → list_all is_functional ways ≡ b → WroteAtMost Allowed a c
+  whole_by c lines l ways written all true good =
+      inl (nothing_added a c lines (nothing_first lines l (functional-silent limit program.types fs (lines ++ l) ways all good)) written)
+  whole_by c lines l ways written all false some =
+      let count : 0 < length stopped_line = omega arith in
+      inr (record {
+        output = (lines ++ l) ++ stopped_line;
+        status = status_of (stopped_ending ways);
+        allowed = stops (lines ++ l) ways all some;
+        written = subst (λ (output : List ℕ). WritesFront a c output) (sym (append_assoc lines l stopped_line))
+            (first_written a c lines (l ++ stopped_line) written (omega (arith, count, length-append l stopped_line)));
+      })
 
-    front_by : (c : Option (List ℕ)) (lines l : List ℕ) (ways : List FieldWay) → WritesFront a c lines →
-        ReportsFields limit program.types (pointer_fields program.types) (lines ++ l) ways → (b : Bool) → list_all is_functional ways ≡ b →
-        WroteAtMost Allowed a c
-    front_by c lines l ways front all true good =
-        absurd (no_front a c lines (nothing_first lines l (functional-silent limit program.types (pointer_fields program.types) (lines ++ l) ways all good)) front)
-    front_by c lines l ways front all false some = inr (record {
-      output = (lines ++ l) ++ stopped_line;
-      status = status_of (stopped_ending ways);
-      allowed = stopped r (lines ++ l) ways all some;
-      written = front_of_first a c (lines ++ l) stopped_line (front_of_first a c lines l front);
-    })
+  front_by : (c : Option (List ℕ)) (lines l : List ℕ) (ways : List FieldWay) → WritesFront a c lines → ReportsFields limit program.types fs (lines ++ l) ways →
+      (b : Bool) → list_all is_functional ways ≡ b → WroteAtMost Allowed a c
+  front_by c lines l ways front all true good =
+      absurd (no_front a c lines (nothing_first lines l (functional-silent limit program.types fs (lines ++ l) ways all good)) front)
+  front_by c lines l ways front all false some = inr (record {
+    output = (lines ++ l) ++ stopped_line;
+    status = status_of (stopped_ending ways);
+    allowed = stops (lines ++ l) ways all some;
+    written = front_of_first a c (lines ++ l) stopped_line (front_of_first a c lines l front);
+  })
 
-    pub fields_cut : (c : Option (List ℕ)) → WroteFields limit program.types a c → WroteAtMost Allowed a c
-    fields_cut c (behind done rest ways split before) =
-        let (l, all, whole) = fields-more limit program triples fits own done rest split before.output ways before.allowed in
-        whole_by c before.output l all before.written whole (list_all is_functional all) refl
-    fields_cut c (inside done rest lines ways split reports front) =
-        let (l, all, whole) = fields-more limit program triples fits own done rest split lines ways reports in
-        front_by c lines l all front whole (list_all is_functional all) refl
+  pub stop_among_fields : (triples : List Triple) → ProgramFits program → All (FitsProgram program) triples → (c : Option (List ℕ)) →
+      WroteFields limit program.types a c → WroteAtMost Allowed a c
+  stop_among_fields triples fits own c (behind done rest ways split before) =
+      let (l, all, whole) = fields-more limit program triples fits own done rest split before.output ways before.allowed in
+      whole_by c before.output l all before.written whole (list_all is_functional all) refl
+  stop_among_fields triples fits own c (inside done rest lines ways split reports front) =
+      let (l, all, whole) = fields-more limit program triples fits own done rest split lines ways reports in
+      front_by c lines l all front whole (list_all is_functional all) refl
 
-  -- ---- what was asked for
+-- behind fields that are told to be functional nothing was written
+pub behind_fields : (limit : ℕ) (types : List TypeEntry) (a b : Option (List ℕ)) (ways : List FieldWay) →
+    Wrote (ReportsFields limit types (pointer_fields types)) a b ways → list_all is_functional ways ≡ true → b ≡ a
+behind_fields limit types a b ways before good =
+    nothing_added a b before.output (functional-silent limit types (pointer_fields types) before.output ways before.allowed good) before.written
 
-  -- behind fields that are told to be functional nothing was written
-  pub behind_fields : (b : Option (List ℕ)) (ways : List FieldWay) → Wrote (ReportsFields limit program.types (pointer_fields program.types)) a b ways →
-      list_all is_functional ways ≡ true → b ≡ a
-  behind_fields b ways before good =
-      nothing_added a b before.output (functional-silent limit program.types (pointer_fields program.types) before.output ways before.allowed good) before.written
+-- ---- what was asked for
 
 -- the fields were asked for
 pub fields_judged : (limit : ℕ) (program : TypedProgram) (triples : List Triple) (a : Option (List ℕ)) → AreFunctional program.types →

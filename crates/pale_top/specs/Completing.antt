@@ -1,5 +1,5 @@
 -- What a text without a fault gets, whatever its size: in `check` a verdict on each field and on each triple whose own Peak is within
--- the limit, in `judge` the same for what is asked for, in `ws2s` an answer where its Peak is, and in `replay` and `format` an answer always.
+-- the limit, in `judge` the same for what is asked for, in `meet` on each field and start, in `ws2s` an answer where its Peak is, and in `replay` and `format` an answer always.
 use Rattle.std.specs.Prelude.{◌≡◌, ◌⊎◌, ◌++◌, ℕ, suc, true, false, List, [], length, slice_get, Some, Option}
 use Rattle.std.specs.List.{list_all}
 use Rattle.store_core.specs.Stores.{StoreMap}
@@ -17,7 +17,7 @@ use Rattle.pale_parts.specs.declared.request.Request.{Request}
 use Rattle.pale_parts.specs.declared.request.Request.TheVariants as request
 use Rattle.pale_parts.specs.Requests.{IsRequest}
 use Rattle.pale_io.specs.Whole.{WritesAll}
-use Rattle.pale_words.specs.declared.words.Mode.TheVariants.{Check, Replay, Format, Ws2s, Judge}
+use Rattle.pale_words.specs.declared.words.Mode.TheVariants.{Check, Replay, Format, Ws2s, Judge, Meet}
 use Rattle.pale_words.specs.declared.words.Settings.{Settings}
 use Rattle.pale_modes.specs.declared.status.Status.{Status}
 use Rattle.pale_modes.specs.declared.status.Status.TheVariants.{Good}
@@ -34,7 +34,10 @@ use Rattle.program_promises.specs.Completeness.{IsTripleWithin}
 use Rattle.program_promises.specs.Telling.{TellsFields, TellsTriples, TellsProgram}
 use Rattle.pale_top.specs.Checking.{status_of}
 use Rattle.pale_top.specs.Generating.{gen_line}
+use Rattle.program_meet.specs.declared.ways.MeetWay.{MeetWay}
+use Rattle.program_meet.specs.Meets.{ReportsMeets, AreStartsDecided, totals_of}
 use Rattle.pale_top.specs.Judging.{status_of_way}
+use Rattle.pale_top.specs.Meeting.{meet_status}
 
 -- a report of the program in which each field and each triple within its own Peak has a verdict, and the status by how it ends
 pub record ChecksEach (limit : ℕ) (program : TypedProgram) (triples : List Triple) (output : List ℕ) (status : Status) : Type 0 where
@@ -60,6 +63,15 @@ pub data JudgesEach (limit : ℕ) (program : TypedProgram) (triples : List Tripl
       → ReportsTriple limit program (suc place) t lines how → (IsTripleWithin limit program t → (how ≡ tripled.Valid) ⊎ (how ≡ tripled.Invalid))
       → JudgesEach limit program triples (request.Triple (suc place)) lines (status_of_way how)
 
+-- what `meet` writes of a program, and the status, where each field within its own Peak is told to be functional or ambiguous, and each
+-- triple whose start is within its own to be met, or met by no store
+pub data MeetsEach (limit : ℕ) (program : TypedProgram) (triples : List Triple) : List ℕ → Status → Type 0 where
+  some_field : (lines : List ℕ) (ways : List FieldWay) → TellsFields limit program.types lines ways → list_all is_functional ways ≡ false
+      → MeetsEach limit program triples (lines ++ stopped_line) (status_of (stopped_ending ways))
+  each_start : (lines : List ℕ) (ways : List MeetWay) → AreFunctional program.types → ReportsMeets limit program 1 triples lines ways
+      → AreStartsDecided limit program triples ways
+      → MeetsEach limit program triples (lines ++ totals_of ways) (meet_status ways)
+
 -- by what the sink told before and after, and by the status, the call has written for the text, by the mode:
 pub record Completes (settings : Settings) (text : List ℕ) (before after : Option (List ℕ)) (status : Status) : Type 0 where
   -- of the program that it is read as, such a report
@@ -74,6 +86,9 @@ pub record Completes (settings : Settings) (text : List ℕ) (before after : Opt
   -- of what its one line behind `---` asks for of its program, such a report
   pub judge : settings.mode ≡ Judge → (program : TypedProgram) (triples : List Triple) (r : Request) → SpellsRequest text program triples r →
       Wrote (JudgesEach settings.limit program triples r) before after status
+  -- of the program that it is read as, such a report on the starts of its triples
+  pub meet : settings.mode ≡ Meet → (program : TypedProgram) (triples : List Triple) → IsReadAs text program triples →
+      Wrote (MeetsEach settings.limit program triples) before after status
   -- of the program whose text it is, the canonical spelling
   pub format : settings.mode ≡ Format → (tree : Program) → IsTextOf text tree → WritesAll before after (spelling tree) × (status ≡ Good)
 

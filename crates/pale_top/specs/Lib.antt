@@ -2,4 +2,5 @@ pub mod Checking
 pub mod Completing
 pub mod Generating
 pub mod Judging
+pub mod Meeting
 pub mod Output

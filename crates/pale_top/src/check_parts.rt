@@ -22,7 +22,7 @@ use whole_program::WholeProgram;
 use ws2s_pass::PassList;
 
 /// Puts how one more was judged at the end.
-fn push_way<W: Drop>(ways: &mut Vec<W>, way: W) -> Result<(), AllocError>
+pub(crate) fn push_way<W: Drop>(ways: &mut Vec<W>, way: W) -> Result<(), AllocError>
     ensures { OnOk result (ways.new.items ≡ ways.old.items ++ way ∷ []) }
 {
     ways.push(way)?;

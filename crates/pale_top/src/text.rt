@@ -16,12 +16,14 @@ ghost use Rattle.pale_top.specs.Output.{IsAnswer, IsCutShort, CallOutput, Output
 use crate::check::check_text;
 use crate::generate::gen_text;
 use crate::judge::judge_text;
+use crate::meet::meet_text;
 use pale_io::{Sink, WriteStop};
 use pale_modes::{
     Status, decide_text, ended, format_text, formatting_is_one, replay_text, say,
     texts_within_their_peaks_are_decided,
 };
 use pale_words::{Mode, Settings, WordsStop, read_words};
+use program_meet::laws::starts_are_told_within_their_peaks;
 use program_promises::{
     good_reports_have_safe_runs, reports_tell_each_within_its_peak,
     reports_within_the_peaks_are_verdicts, texts_have_one_reading,
@@ -56,6 +58,7 @@ fn answer_text<K: Sink>(
         Mode::Format => format_text(alloc, text, sink),
         Mode::Ws2s => decide_text(alloc, settings.limit, text, sink),
         Mode::Judge => judge_text(alloc, settings.limit, text, passes, sink),
+        Mode::Meet => meet_text(alloc, settings.limit, text, passes, sink),
         Mode::Gen => unreachable!(),
     }
 }
@@ -76,9 +79,12 @@ fn obey<K: Sink>(
 {
     match settings.mode {
         Mode::Gen => gen_text(alloc, settings.limit, settings.seed, passes, sink),
-        Mode::Check | Mode::Replay | Mode::Format | Mode::Ws2s | Mode::Judge => {
-            answer_text(alloc, settings, text, passes, sink)
-        }
+        Mode::Check
+        | Mode::Replay
+        | Mode::Format
+        | Mode::Ws2s
+        | Mode::Judge
+        | Mode::Meet => answer_text(alloc, settings, text, passes, sink),
     }
 }
 
@@ -148,6 +154,7 @@ pub fn pale_bytes<K: Sink>(
     good_reports_have_safe_runs();
     reports_within_the_peaks_are_verdicts();
     reports_tell_each_within_its_peak();
+    starts_are_told_within_their_peaks();
     formatting_is_one();
     texts_within_their_peaks_are_decided();
     ended(answer_words(alloc, words, text, passes, sink))

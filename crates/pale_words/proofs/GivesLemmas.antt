@@ -4,14 +4,15 @@ use Rattle.std.specs.Prelude.{codes}
 use Rattle.std.specs.Str.{bytes_eq}
 use Rattle.std.proofs.lemmas.Option.{same_Some}
 use Rattle.pale_words.specs.declared.words.Mode.{Mode}
-use Rattle.pale_words.specs.declared.words.Mode.TheVariants.{Check, Replay, Format, Ws2s, Judge, Gen}
+use Rattle.pale_words.specs.declared.words.Mode.TheVariants.{Check, Replay, Format, Ws2s, Judge, Meet, Gen}
 use Rattle.pale_words.specs.declared.words.Settings.{Settings}
 use Rattle.pale_words.specs.Words.{Gives, IsRefused, mode_name}
 
 -- the mode that a name is of
 by_name : List ℕ → Mode
 by_name t = if bytes_eq (codes "check") t then Check else (if bytes_eq (codes "replay") t then Replay else (if bytes_eq (codes "format") t then Format
-    else (if bytes_eq (codes "ws2s") t then Ws2s else (if bytes_eq (codes "judge") t then Judge else Gen))))
+    else (if bytes_eq (codes "ws2s") t then Ws2s else (if bytes_eq (codes "judge") t then Judge
+    else (if bytes_eq (codes "meet") t then Meet else Gen)))))
 
 own_name : (mode : Mode) → by_name (mode_name mode) ≡ mode
 unfolding by_name
@@ -20,6 +21,7 @@ own_name Replay = refl
 own_name Format = refl
 own_name Ws2s = refl
 own_name Judge = refl
+own_name Meet = refl
 own_name Gen = refl
 
 same_name : (one other : Mode) → mode_name one ≡ mode_name other → one ≡ other

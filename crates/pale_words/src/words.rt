@@ -21,6 +21,8 @@ pub enum Mode {
     Ws2s,
     /// Judges one triple of a program, or its pointer fields alone.
     Judge,
+    /// Finds a least store that meets each triple of a program.
+    Meet,
     /// Judges the generator's program of a seed.
     Gen,
 }
@@ -58,7 +60,7 @@ ghost use Rattle.clap.specs.declared.builder.value_parser.ValueParser.TheVariant
 ghost use Rattle.pale_words.specs.Words.{Gives, HasMode, HasNumber, HasSettings, HasValues, number_of, mode_rule, number_rule, IsRefused, IsModeParser};
 ghost use Rattle.pale_words.specs.Words.{mode_name, command_with};
 
-static MODE_NAMES: [&str; 6] = ["check", "replay", "format", "ws2s", "judge", "gen"];
+static MODE_NAMES: [&str; 7] = ["check", "replay", "format", "ws2s", "judge", "meet", "gen"];
 
 impl Mode {
     /// The mode of this name.
@@ -72,6 +74,7 @@ impl Mode {
             "format" => Some(Mode::Format),
             "ws2s" => Some(Mode::Ws2s),
             "judge" => Some(Mode::Judge),
+            "meet" => Some(Mode::Meet),
             "gen" => Some(Mode::Gen),
             _ => None,
         }

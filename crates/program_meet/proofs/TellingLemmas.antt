@@ -1,8 +1,10 @@
 -- Something can be told of each start, and so of all that are left.
-use Rattle.std.proofs.Common.{◌≡◌, ◌∙◌, ◌⊎◌, inl, inr, ◌+◌, ◌++◌, ℕ, suc, List, [], ◌∷◌, length, refl, sym, subst, arith, append_assoc, append-nil}
+use Rattle.std.proofs.Common.{◌≡◌, ◌∙◌, ◌⊎◌, inl, inr, ◌+◌, ◌<◌, ◌≤◌, ◌++◌, ℕ, zero, suc, Some, List, [], ◌∷◌, length, refl, sym, subst, arith, append_assoc, append-nil}
 use Rattle.std.specs.Prelude.{All}
 use Rattle.std.proofs.lemmas.List.Elements.{All-head, All-tail}
+use Rattle.store_core.specs.Tables.{TypeEntry, VarEntry}
 use Rattle.store_exec.specs.declared.triple.Triple.{Triple}
+use Rattle.triple_judge.specs.Judging.{HasTriplePeak}
 use Rattle.store_text.specs.StoreText.{store_text_of}
 use Rattle.witness_store.specs.Alike.{AreFunctional}
 use Rattle.pale_typed.specs.TypedPrograms.{TypedProgram}
@@ -13,7 +15,7 @@ use Rattle.program_judge.proofs.StandingLemmas.{can-be-judged-by}
 use Rattle.program_meet.specs.declared.ways.MeetWay.{MeetWay}
 use Rattle.program_meet.specs.declared.ways.MeetWay.TheVariants as way
 use Rattle.program_meet.specs.Starts.{asking}
-use Rattle.program_meet.specs.Meets.{met_line, empty_line, ReportsMeet, met, empty, ReportsMeets, no_triple, next_triple}
+use Rattle.program_meet.specs.Meets.{met_line, empty_line, ReportsMeet, met, empty, at_limit, ReportsMeets, no_triple, next_triple, IsStartWithin, AreStartsDecided}
 use Rattle.program_meet.proofs.AskingLemmas.{asking-fits, valid-unmet, failing-meeting}
 
 module _ (limit : ℕ) (program : TypedProgram) where
@@ -72,3 +74,25 @@ module _ (limit : ℕ) (program : TypedProgram) where
           subst (λ (ts : List Triple). ReportsMeets limit program 1 ts (lines ++ more) (ways ++ others)) (sym split)
               (meets-joined 1 done rest lines more ways others reports told),
         )
+
+-- ---- within a start's own Peak
+
+module _ (greatest : (types : List TypeEntry) (vars : List VarEntry) (t : Triple) → (p : ℕ) × HasTriplePeak types vars t p) (limit : ℕ)
+    (program : TypedProgram) where
+  start-decided : (k : ℕ) (t : Triple) (lines : List ℕ) (how : MeetWay) → ReportsMeet limit program k t lines how → IsStartWithin limit program t →
+      (Some how ≡ Some way.Met) ⊎ (Some how ≡ Some way.Empty)
+  start-decided k t _ _ (met e s there least) within = inl refl
+  start-decided k t _ _ (empty e there none) within = inr refl
+  start-decided k t _ _ (at_limit e there over) within =
+      let (p, peak) = greatest program.types e.vars (asking t) in
+      let above : limit < p = over p peak in
+      let below : p ≤ limit = within e p there peak in
+      absurd (omega (arith, above, below))
+
+  pub starts-decided : (k : ℕ) (ts : List Triple) (lines : List ℕ) (ways : List MeetWay) → ReportsMeets limit program k ts lines ways →
+      AreStartsDecided limit program ts ways
+  starts-decided _ _ _ _ (no_triple k) i t at within = absurd (cc)
+  starts-decided _ _ _ _ (next_triple k u us how ways lines others report rest) zero t at within =
+      let same : u ≡ t = cc in
+      start-decided k t lines how (subst (λ (x : Triple). ReportsMeet limit program k x lines how) same report) within
+  starts-decided _ _ _ _ (next_triple k u us how ways lines others report rest) (suc i) t at within = starts-decided (suc k) us others ways rest i t at within

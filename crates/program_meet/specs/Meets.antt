@@ -1,6 +1,5 @@
 -- What is written of the starts of a program's triples, by the limit of decision nodes.
-use Rattle.std.specs.Prelude.{◌≡◌, ◌<◌, ℕ, suc, Bool, true, false, if◌then◌else◌, List, [], ◌∷◌, ◌++◌, codes, count_by, length, slice_get, Some}
-use Rattle.std.specs.List.{list_any}
+use Rattle.std.specs.Prelude.{◌≡◌, ◌⊎◌, ◌<◌, ◌≤◌, ℕ, suc, Bool, true, false, List, [], ◌∷◌, ◌++◌, codes, count_by, length, slice_get, Some}
 use Rattle.std.specs.Fmt.{decimal}
 use Rattle.store_core.specs.Stores.{StoreMap}
 use Rattle.store_exec.specs.declared.triple.Triple.{Triple}
@@ -66,3 +65,14 @@ is_at_limit way.Limit = true
 
 abbrev pub totals_of : List MeetWay → List ℕ
 totals_of ways = meet_totals (length ways) (count_by is_met ways) (count_by is_empty ways) (count_by is_at_limit ways)
+
+-- ---- Peaks
+
+-- the Peak of the triple's start, over the variables of its procedure, isn't above the limit
+abbrev pub IsStartWithin : ℕ → TypedProgram → Triple → Type 0
+IsStartWithin limit program t = (e : ProcEntry) (p : ℕ) → slice_get program.procs t.proc ≡ Some e → HasStartPeak program.types e.vars t p → p ≤ limit
+
+-- each of the triples whose start is within its own Peak was told to be met, or to be met by no store
+abbrev pub AreStartsDecided : ℕ → TypedProgram → List Triple → List MeetWay → Type 0
+AreStartsDecided limit program triples ways = (i : ℕ) (t : Triple) → slice_get triples i ≡ Some t → IsStartWithin limit program t →
+    (slice_get ways i ≡ Some way.Met) ⊎ (slice_get ways i ≡ Some way.Empty)

@@ -1,6 +1,6 @@
 //! What the answers on a triple's start exclude of one another, that one of them is right, and what follows from reports.
 
-ghost use Rattle.std.specs.Prelude.{◌≡◌, ◌⊎◌, ◌++◌, ℕ, List, length, All, Some};
+ghost use Rattle.std.specs.Prelude.{◌≡◌, ◌++◌, ℕ, List, All};
 ghost use Rattle.store_core.specs.Tables.{TypeEntry, VarEntry};
 ghost use Rattle.store_core.specs.Stores.{StoreMap};
 ghost use Rattle.store_exec.specs.Failing.{Meets};
@@ -12,7 +12,9 @@ ghost use Rattle.hoare_split.specs.Fitting.{FitsProgram};
 ghost use Rattle.triple_judge.specs.Judging.{IsValid};
 ghost use Rattle.program_meet.specs.declared.ways.MeetWay.{MeetWay};
 ghost use Rattle.program_meet.specs.Starts.{asking, IsUnmet, IsLeastMeeting};
-ghost use Rattle.program_meet.specs.Meets.{ReportsMeet, ReportsMeets};
+ghost use Rattle.program_meet.specs.Meets.{ReportsMeet, ReportsMeets, AreStartsDecided};
+
+use triple_judge::laws::triples_have_one_peak;
 
 /// The triple that asks starts as the other one does, and is valid exactly where no store meets that.
 pub fn asking_triples_fail_from_what_meets()
@@ -39,3 +41,11 @@ pub fn starts_can_be_told()
         ReportsMeets limit program 1 done lines ways →
         (more : List ℕ) × (others : List MeetWay) × ReportsMeets limit program 1 triples (lines ++ more) (ways ++ others) }
 {}
+
+/// Each triple whose start is within its own Peak is told to be met, or to be met by no store, whatever the Peaks of the others are.
+pub fn starts_are_told_within_their_peaks()
+    ensures { (limit : ℕ) (program : TypedProgram) (triples : List Triple) (lines : List ℕ) (ways : List MeetWay) →
+        ReportsMeets limit program 1 triples lines ways → AreStartsDecided limit program triples ways }
+{
+    triples_have_one_peak();
+}

@@ -2,7 +2,8 @@ use Rattle.std.proofs.Common.{rules}
 use Rattle.pale_modes.specs.Formatting.{Formats}
 use Rattle.pale_top.specs.Checking.{Checks}
 use Rattle.pale_top.specs.Judging.{Judges}
-use Rattle.pale_top.specs.Output.{Output, check, replay, format, ws2s, judge}
+use Rattle.pale_top.specs.Meeting.{MeetsText}
+use Rattle.pale_top.specs.Output.{Output, check, replay, format, ws2s, judge, meet}
 use Rattle.pale_modes.specs.Deciding.{Decides}
 use Rattle.pale_modes.specs.Replaying.{Replays}
 use Rattle.pale_modes.proofs.WrittenLemmas.{begun-weaker, whole-weaker}
@@ -71,3 +72,13 @@ pub returns-in-Judge-clause-err : goal.returns-in-Judge-clause-err
 returns-in-Judge-clause-err g c =
     begun-weaker (Judges c.args.settings.limit c.args.text.now) (Output c.args.settings c.args.text.now) (judge c.in-Judge.is)
     (g.K.Sink.written c.args.sink.now) (g.K.Sink.written c.judge_text.new.sink) c.judge_text.result c.judge_text.ensures.err
+
+pub returns-in-Meet-clause-ok : goal.returns-in-Meet-clause-ok
+returns-in-Meet-clause-ok g c =
+    whole-weaker (MeetsText c.args.settings.limit c.args.text.now) (Output c.args.settings c.args.text.now) (meet c.in-Meet.is)
+    (g.K.Sink.written c.args.sink.now) (g.K.Sink.written c.meet_text.new.sink) c.meet_text.result c.meet_text.ensures.ok
+
+pub returns-in-Meet-clause-err : goal.returns-in-Meet-clause-err
+returns-in-Meet-clause-err g c =
+    begun-weaker (MeetsText c.args.settings.limit c.args.text.now) (Output c.args.settings c.args.text.now) (meet c.in-Meet.is)
+    (g.K.Sink.written c.args.sink.now) (g.K.Sink.written c.meet_text.new.sink) c.meet_text.result c.meet_text.ensures.err

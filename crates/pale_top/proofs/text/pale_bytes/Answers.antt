@@ -28,6 +28,7 @@ returns-clause-each_answered g c is settings gives short =
       fields = c.reports_tell_each_within_its_peak.ensures.fields;
       triples = c.reports_tell_each_within_its_peak.ensures.triples;
       triple = c.reports_tell_each_within_its_peak.ensures.triple;
+      starts = c.starts_are_told_within_their_peaks.ensures;
       program = c.reports_tell_each_within_its_peak.ensures.program;
       spelled = c.formatting_is_one.ensures;
       decided = c.texts_within_their_peaks_are_decided.ensures;
@@ -45,6 +46,7 @@ returns-clause-each_counted g c is settings gives asks short program triples rea
       fields = c.reports_tell_each_within_its_peak.ensures.fields;
       triples = c.reports_tell_each_within_its_peak.ensures.triples;
       triple = c.reports_tell_each_within_its_peak.ensures.triple;
+      starts = c.starts_are_told_within_their_peaks.ensures;
       program = c.reports_tell_each_within_its_peak.ensures.program;
       spelled = c.formatting_is_one.ensures;
       decided = c.texts_within_their_peaks_are_decided.ensures;
