@@ -30,7 +30,8 @@ use Rattle.program_judge.specs.declared.ways.Ending.TheVariants as ending
 use Rattle.pale_top.specs.Checking.{Checks}
 use Rattle.pale_top.specs.Checking as checking
 use Rattle.pale_top.specs.Output.{Answers, Begins, CallOutput, IsAnswer, IsCutShort, Output}
-use Rattle.pale_top.specs.Judging.{Judges, JudgesRequest}
+use Rattle.pale_top.specs.Judging.{Judges, JudgesPart, JudgesRequest}
+use Rattle.store_text.specs.Lines.{lines_of}
 use Rattle.pale_top.specs.Judging as judging
 use Rattle.pale_top.specs.Meeting.{MeetsText, MeetsProgram}
 use Rattle.pale_top.specs.Meeting as meeting
@@ -102,13 +103,19 @@ judged_given limit program triples r _ _ (judging.stopped _ lines ways reports s
 judged_given limit program triples _ _ _ (judging.fields every) = tt
 judged_given limit program triples _ _ _ (judging.triple place t lines how every there report) = way_given how
 
+part_given : (limit : ℕ) (program : TypedProgram) (triples : List Triple) (lines : Option (List (List ℕ))) (output : List ℕ) (status : Status) →
+    JudgesPart limit program triples lines output status → IsGiven status
+part_given limit program triples _ _ _ judging.no_part = tt
+part_given limit program triples _ _ _ (judging.no_request lines fault bad) = tt
+part_given limit program triples _ _ _ (judging.asked lines r output status is judges) = judged_given limit program triples r output status judges
+
 judges_given : (limit : ℕ) (text output : List ℕ) (status : Status) → Judges limit text output status → IsGiven status
 judges_given limit text output status (judging.too_long more) = tt
 judges_given limit text output status (judging.refused refusal within is) = tt
-judges_given limit text output status (judging.uncut program triples within cut is) = tt
-judges_given limit text output status (judging.no_request part after program triples fault within cut is bad) = tt
-judges_given limit text output status (judging.judged part after program triples r lines s within cut is asked judges) =
-    judged_given limit program triples r lines s judges
+judges_given limit text output status (judging.uncut program triples o s within none is judges) =
+    part_given limit program triples None o s judges
+judges_given limit text output status (judging.cut part after program triples o s within at is judges) =
+    part_given limit program triples (Some (lines_of after)) o s judges
 
 meet_status_given : (ways : List MeetWay) → IsGiven (meeting.meet_status ways)
 meet_status_given ways = by (list_any is_empty ways) (list_any is_at_limit ways)

@@ -1,5 +1,5 @@
 -- A text that asks for something of its program is answered by what is said of that.
-use Rattle.std.proofs.Common.{◌≡◌, ◌∙◌, ◌⊎◌, inl, inr, ◌<◌, ◌≤◌, ℕ, List, [], ◌∷◌, length, Some, slice_get, drop, refl, sym, ap, subst, arith}
+use Rattle.std.proofs.Common.{◌≡◌, ◌∙◌, ◌⊎◌, inl, inr, ◌<◌, ◌≤◌, ℕ, List, [], ◌∷◌, length, Option, None, Some, drop, refl, sym, ap, subst, arith}
 use Rattle.std.specs.Prelude.{codes}
 use Rattle.std.proofs.lemmas.Option.{same_Some}
 use Rattle.pale_text.specs.declared.refusal.Refusal.{Refusal}
@@ -25,7 +25,7 @@ use Rattle.program_judge.specs.declared.ways.TripleWay.TheVariants as tripled
 use Rattle.program_judge.specs.Reports.{pointer_fields, ReportsFields, ReportsTriple}
 use Rattle.program_promises.specs.Completeness.{IsTripleWithin}
 use Rattle.program_promises.specs.Telling.{TellsFields}
-use Rattle.pale_top.specs.Judging.{Judges, too_long, refused, uncut, no_request, judged, JudgesRequest, status_of_way}
+use Rattle.pale_top.specs.Judging.{Judges, too_long, refused, uncut, cut, JudgesPart, no_part, no_request, asked, JudgesRequest}
 use Rattle.pale_top.specs.Judging as judging
 use Rattle.pale_top.specs.Completing.{SpellsRequest, JudgesEach, some_field, each_field, one_triple}
 
@@ -102,35 +102,33 @@ module _ (laws : Laws) (text : List ℕ) (limit : ℕ) (program : TypedProgram) 
   told _ _ (judging.triple place t lines how every there report) =
       one_triple place t lines how every there report (laws.triple limit program (suc place) t lines how report)
 
-  module _ (part after : List ℕ) (other : TypedProgram) (others : List Triple) (again : IsCutAs text part after) (read : IsReadAs part other others) where
-    parts : (part ≡ spells.part) × (lines_of after ≡ lines_of spells.after)
-    parts = one_cut text part spells.part after spells.after again spells.cut
+  -- the part behind `---` is the one that is spelled
+  answered : (ls : Option (List (List ℕ))) (output : List ℕ) (status : Status) → JudgesPart limit program triples ls output status →
+      ls ≡ Some (lines_of spells.after) → JudgesEach limit program triples r output status
+  answered _ _ _ no_part is = absurd (cc)
+  answered _ _ _ (no_request ls fault bad) is =
+      let here : ls ≡ lines_of spells.after = cc in
+      absurd (not-refused (length triples) (lines_of spells.after) r fault spells.asked
+      (subst (λ (l : List (List ℕ)). IsRequestFault (length triples) l fault) here bad))
+  answered _ _ _ (asked ls q output status is_request judges) is =
+      let here : ls ≡ lines_of spells.after = cc in
+      let asks = subst (λ (l : List (List ℕ)). IsRequest (length triples) l q) here is_request in
+      let one = one-asked (length triples) (lines_of spells.after) q r asks spells.asked in
+      told output status (subst (λ (x : Request). JudgesRequest limit program triples x output status) one judges)
 
-    same : (other ≡ program) × (others ≡ triples)
-    same = laws.one spells.part other program others triples (subst (λ (p : List ℕ). IsReadAs p other others) parts.0 read) spells.read
-
-    unrefused : (fault : RequestFault) → IsRequestFault (length others) (lines_of after) fault → ⊥
-    unrefused fault bad =
-        let here = subst (λ (ls : List (List ℕ)). IsRequestFault (length others) ls fault) parts.1 bad in
-        not-refused (length triples) (lines_of spells.after) r fault spells.asked
-        (subst (λ (ts : List Triple). IsRequestFault (length ts) (lines_of spells.after) fault) same.1 here)
-
-    answered : (q : Request) (lines : List ℕ) (status : Status) → IsRequest (length others) (lines_of after) q →
-        JudgesRequest limit other others q lines status → JudgesEach limit program triples r lines status
-    answered q lines status asked judges =
-        let here = subst (λ (ls : List (List ℕ)). IsRequest (length others) ls q) parts.1 asked in
-        let asks = subst (λ (ts : List Triple). IsRequest (length ts) (lines_of spells.after) q) same.1 here in
-        let one = one-asked (length triples) (lines_of spells.after) q r asks spells.asked in
-        let of_program = subst (λ (p : TypedProgram). JudgesRequest limit p others q lines status) same.0 judges in
-        let of_triples = subst (λ (ts : List Triple). JudgesRequest limit program ts q lines status) same.1 of_program in
-        told lines status (subst (λ (x : Request). JudgesRequest limit program triples x lines status) one of_triples)
+  behind-cut : (part after : List ℕ) (other : TypedProgram) (others : List Triple) (output : List ℕ) (status : Status) → IsCutAs text part after →
+      IsReadAs part other others → JudgesPart limit other others (Some (lines_of after)) output status → JudgesEach limit program triples r output status
+  behind-cut part after other others output status again read judges =
+      let parts = one_cut text part spells.part after spells.after again spells.cut in
+      let same = laws.one spells.part other program others triples (subst (λ (p : List ℕ). IsReadAs p other others) parts.0 read) spells.read in
+      let of_program = subst (λ (p : TypedProgram). JudgesPart limit p others (Some (lines_of after)) output status) same.0 judges in
+      let of_triples = subst (λ (ts : List Triple). JudgesPart limit program ts (Some (lines_of after)) output status) same.1 of_program in
+      answered (Some (lines_of after)) output status of_triples (ap (λ (l : List (List ℕ)). Some l) parts.1)
 
   pub judged_each : (output : List ℕ) (status : Status) → length text ≤ most_bytes → Judges limit text output status →
       JudgesEach limit program triples r output status
   judged_each _ _ short (too_long more) = absurd (omega (arith, more, short))
   judged_each _ _ short (refused refusal within stopped) = absurd (not-stopped refusal stopped)
-  judged_each _ _ short (uncut other others within none read) = absurd (cut_or_not text spells.part spells.after spells.cut none)
-  judged_each _ _ short (no_request part after other others fault within again read bad) =
-      absurd (unrefused part after other others again read fault bad)
-  judged_each _ _ short (judged part after other others q lines status within again read asked judges) =
-      answered part after other others again read q lines status asked judges
+  judged_each _ _ short (uncut other others output status within none read judges) = absurd (cut_or_not text spells.part spells.after spells.cut none)
+  judged_each _ _ short (cut part after other others output status within again read judges) =
+      behind-cut part after other others output status again read judges

@@ -2,5 +2,6 @@ mod CallLemmas
 mod CheckingLemmas
 mod JudgingLemmas
 mod JudgedLemmas
+mod MeetingLemmas
 mod PromiseLemmas
 mod CompletingLemmas

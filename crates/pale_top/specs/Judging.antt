@@ -1,5 +1,5 @@
 -- What `judge` writes for a text and how it ends: what `check` reports on one triple, or on the pointer fields alone.
-use Rattle.std.specs.Prelude.{◌≡◌, ◌<◌, ◌≤◌, ℕ, suc, false, List, [], ◌∷◌, ◌++◌, length, slice_get, Some}
+use Rattle.std.specs.Prelude.{◌≡◌, ◌<◌, ◌≤◌, ℕ, suc, false, List, [], ◌∷◌, ◌++◌, length, slice_get, Option, None, Some}
 use Rattle.std.specs.List.{list_all}
 use Rattle.pale_text.specs.declared.refusal.Refusal.{Refusal}
 use Rattle.pale_text.specs.declared.refusal.TextStop.TheVariants as stop
@@ -43,16 +43,22 @@ pub data JudgesRequest (limit : ℕ) (program : TypedProgram) (triples : List Tr
       → ReportsTriple limit program (suc place) t lines how
       → JudgesRequest limit program triples (request.Triple (suc place)) lines (status_of_way how)
 
--- what is written for a text, and the status: the text has too many bytes; its program's part is refused; that is a program, and
--- there is no line `---`; what follows that is no request; or it is one, for which this is written
+-- what is written for the lines behind the line `---`, where there is one, and the status: there is none; the lines are no request; or
+-- they are one, for which this is written
+pub data JudgesPart (limit : ℕ) (program : TypedProgram) (triples : List Triple) : Option (List (List ℕ)) → List ℕ → Status → Type 0 where
+  no_part : JudgesPart limit program triples None (request_line (record { line = 0; kind = Missing })) Text
+  no_request : (lines : List (List ℕ)) (fault : RequestFault) → IsRequestFault (length triples) lines fault
+      → JudgesPart limit program triples (Some lines) (request_line fault) Text
+  asked : (lines : List (List ℕ)) (r : Request) (output : List ℕ) (status : Status) → IsRequest (length triples) lines r
+      → JudgesRequest limit program triples r output status → JudgesPart limit program triples (Some lines) output status
+
+-- what is written for a text, and the status: the text has too many bytes; its program's part is refused; or that is a program, and this
+-- is written for what follows it, which is nothing where there is no line `---`
 pub data Judges (limit : ℕ) (text : List ℕ) : List ℕ → Status → Type 0 where
   too_long : most_bytes < length text → Judges limit text too_long_line Text
   refused : (refusal : Refusal) → length text ≤ most_bytes → IsReplayStop text (stop.Refused refusal) → Judges limit text (refused_line refusal) Text
-  uncut : (program : TypedProgram) (triples : List Triple) → length text ≤ most_bytes → HasNoCut text → IsReadAs text program triples
-      → Judges limit text (request_line (record { line = 0; kind = Missing })) Text
-  no_request : (part after : List ℕ) (program : TypedProgram) (triples : List Triple) (fault : RequestFault) → length text ≤ most_bytes
-      → IsCutAs text part after → IsReadAs part program triples → IsRequestFault (length triples) (lines_of after) fault
-      → Judges limit text (request_line fault) Text
-  judged : (part after : List ℕ) (program : TypedProgram) (triples : List Triple) (r : Request) (lines : List ℕ) (status : Status)
-      → length text ≤ most_bytes → IsCutAs text part after → IsReadAs part program triples → IsRequest (length triples) (lines_of after) r
-      → JudgesRequest limit program triples r lines status → Judges limit text lines status
+  uncut : (program : TypedProgram) (triples : List Triple) (output : List ℕ) (status : Status) → length text ≤ most_bytes → HasNoCut text
+      → IsReadAs text program triples → JudgesPart limit program triples None output status → Judges limit text output status
+  cut : (part after : List ℕ) (program : TypedProgram) (triples : List Triple) (output : List ℕ) (status : Status) → length text ≤ most_bytes
+      → IsCutAs text part after → IsReadAs part program triples → JudgesPart limit program triples (Some (lines_of after)) output status
+      → Judges limit text output status

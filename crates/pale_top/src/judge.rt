@@ -1,5 +1,6 @@
 //! The mode `judge`: the report of one triple, or of the pointer fields alone.
 ghost use Rattle.std.specs.Prelude.{◌≡◌, ◌≤◌, length, All, IfOk, IfErr, IfSome, IfNone, OnErr, IsErrOf, List, ℕ, Err};
+ghost use Rattle.std.specs.Option.{option_map};
 ghost use Rattle.pale_io.specs.Faults.{Rose};
 ghost use Rattle.bdd_nodes.specs.Shelf.{limit_of};
 ghost use Rattle.gta_keep.specs.Holding.{HasNoTables};
@@ -11,7 +12,7 @@ ghost use Rattle.pale_words.specs.Words.{IsLimit};
 ghost use Rattle.pale_parts.specs.Requests.{IsRequest, IsRequestFault};
 ghost use Rattle.pale_modes.specs.Written.{Wrote, WroteAtMost};
 ghost use Rattle.pale_modes.specs.Texts.{most_bytes};
-ghost use Rattle.pale_top.specs.Judging.{Judges, JudgesRequest, status_of_way};
+ghost use Rattle.pale_top.specs.Judging.{Judges, JudgesPart, JudgesRequest, status_of_way};
 
 use crate::check::status_of;
 use crate::check_parts::{check_fields, check_triple};
@@ -109,6 +110,34 @@ fn request_of(part: Option<&[u8]>, triples: usize) -> Result<Request, RequestFau
     }
 }
 
+/// Answers what the part behind the line `---` asks for of a program.
+fn judge_part<K: Sink>(
+    alloc: Global,
+    limit: u32,
+    whole: &WholeProgram,
+    part: Option<&[u8]>,
+    passes: &PassList,
+    sink: &mut K,
+) -> Result<Status, WriteStop>
+    requires limit { IsLimit limit }
+    requires program { ProgramFits whole.now.typed }
+    requires triples { All (FitsProgram whole.now.typed) whole.now.triples }
+    ensures ok { IfOk result (Wrote (JudgesPart limit whole.now.typed whole.now.triples (option_map (λ after. lines_of after.now) part))
+        (K.written sink.old) (K.written sink.new)) }
+    ensures err { OnErr result (WroteAtMost (JudgesPart limit whole.now.typed whole.now.triples (option_map (λ after. lines_of after.now) part))
+        (K.written sink.old) (K.written sink.new)) }
+    ensures failed { IsErrOf result WriteStop.Failed → Rose (K.faults sink.old) (K.faults sink.new) }
+    ensures kept { K.faults sink.old ≤ K.faults sink.new }
+{
+    match request_of(part, whole.triples.len()) {
+        Ok(request) => judge_request(alloc, limit, whole, request, passes, sink),
+        Err(fault) => {
+            let line = request_line(alloc, fault)?;
+            say(sink, line.as_slice(), Status::Text)
+        }
+    }
+}
+
 /// Answers a request of a text that isn't too long.
 pub(crate) fn judge_text<K: Sink>(
     alloc: Global,
@@ -125,15 +154,8 @@ pub(crate) fn judge_text<K: Sink>(
     ensures kept { K.faults sink.old ≤ K.faults sink.new }
 {
     let (program, part) = cut_text(text);
-    let whole = match read_program(alloc, program) {
-        Ok(whole) => whole,
-        Err(stop) => return refuse(alloc, stop, sink),
-    };
-    match request_of(part, whole.triples.len()) {
-        Ok(request) => judge_request(alloc, limit, &whole, request, passes, sink),
-        Err(fault) => {
-            let line = request_line(alloc, fault)?;
-            say(sink, line.as_slice(), Status::Text)
-        }
+    match read_program(alloc, program) {
+        Ok(whole) => judge_part(alloc, limit, &whole, part, passes, sink),
+        Err(stop) => refuse(alloc, stop, sink),
     }
 }
