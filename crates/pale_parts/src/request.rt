@@ -1,6 +1,7 @@
 //! What is asked of a program by the one line behind `---`.
 
-ghost use Rattle.std.specs.Prelude.{◌≡◌, IfOk, IfErr, ℕ};
+ghost use Rattle.std.specs.Prelude.{◌≡◌, ◌∷◌, IfOk, IfErr, codes};
+ghost use Rattle.std.specs.Str.{bytes_eq};
 ghost use Rattle.store_text.specs.Lines.{lines_of};
 ghost use Rattle.pale_parts.specs.Requests.{Asks, IsRequest, IsRequestFault, word_of, request_line};
 
@@ -54,12 +55,19 @@ fn first_fault(kind: RequestKind) -> RequestFault
     RequestFault { line: 1, kind }
 }
 
+/// Whether a line asks for the pointer fields.
+fn is_fields(line: &[u8]) -> bool
+    ensures { result ≡ bytes_eq line.now (codes "fields") }
+{
+    line == b"fields".as_slice()
+}
+
 /// What a line asks for of a program with so many triples.
 fn asked_in(line: &[u8], triples: usize) -> Result<Request, RequestFault>
     ensures ok { IfOk result (Asks triples line.now) }
     ensures err { IfErr result (λ fault. (more : _) → IsRequestFault triples (line.now ∷ more) fault) }
 {
-    if line == b"fields".as_slice() {
+    if is_fields(line) {
         return Ok(Request::Fields);
     }
     match triple_in(line) {
