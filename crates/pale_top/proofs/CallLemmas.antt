@@ -35,8 +35,8 @@ use Rattle.store_text.specs.Lines.{lines_of}
 use Rattle.pale_top.specs.Judging as judging
 use Rattle.pale_top.specs.Meeting.{MeetsText, MeetsProgram}
 use Rattle.pale_top.specs.Meeting as meeting
-use Rattle.program_meet.specs.declared.ways.MeetWay.{MeetWay}
-use Rattle.program_meet.specs.Meets.{is_empty, is_at_limit}
+use Rattle.program_judge.specs.declared.meet_way.MeetWay.{MeetWay}
+use Rattle.program_judge.specs.Meets.{is_empty, is_at_limit}
 use Rattle.std.specs.List.{list_any}
 use Rattle.std.proofs.Common.{Bool, true, false, if◌then◌else◌}
 use Rattle.pale_parts.specs.declared.request.Request.{Request}

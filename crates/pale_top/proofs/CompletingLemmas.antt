@@ -40,8 +40,8 @@ use Rattle.pale_top.specs.Completing as counting
 use Rattle.pale_top.specs.Judging.{Judges}
 use Rattle.pale_top.specs.Meeting.{MeetsText, MeetsProgram}
 use Rattle.pale_top.specs.Meeting as meeting
-use Rattle.program_meet.specs.declared.ways.MeetWay.{MeetWay}
-use Rattle.program_meet.specs.Meets.{ReportsMeets, AreStartsDecided}
+use Rattle.program_judge.specs.declared.meet_way.MeetWay.{MeetWay}
+use Rattle.program_judge.specs.Meets.{ReportsMeets, AreStartsDecided}
 use Rattle.pale_top.proofs.JudgedLemmas as judged
 use Rattle.pale_top.specs.Generating.{Counts, Gens, Tells}
 use Rattle.pale_top.specs.Generating as generating

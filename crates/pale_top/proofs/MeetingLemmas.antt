@@ -12,9 +12,9 @@ use Rattle.pale_io.specs.Whole.{WritesAll, WritesFront}
 use Rattle.pale_modes.specs.declared.status.Status.{Status}
 use Rattle.pale_modes.specs.Written.{Wrote, WroteAtMost}
 use Rattle.pale_modes.proofs.WrittenLemmas.{nothing_written, both_written, front_of_first, first_written, front_of_second}
-use Rattle.program_meet.specs.declared.ways.MeetWay.{MeetWay}
-use Rattle.program_meet.specs.Meets.{ReportsMeet, ReportsMeets, no_triple, next_triple, totals_of}
-use Rattle.program_meet.proofs.TellingLemmas.{meet-more, meets-rest}
+use Rattle.program_judge.specs.declared.meet_way.MeetWay.{MeetWay}
+use Rattle.program_judge.specs.Meets.{ReportsMeet, ReportsMeets, no_triple, next_triple, totals_of}
+use Rattle.program_judge.proofs.MeetTellingLemmas.{meet-more, meets-rest}
 use Rattle.pale_top.specs.Meeting.{MeetsProgram, told, meet_status}
 
 ways_count : (limit : ℕ) (program : TypedProgram) (k : ℕ) (ts : List Triple) (lines : List ℕ) (ways : List MeetWay) →

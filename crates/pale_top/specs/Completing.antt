@@ -34,8 +34,8 @@ use Rattle.program_promises.specs.Completeness.{IsTripleWithin}
 use Rattle.program_promises.specs.Telling.{TellsFields, TellsTriples, TellsProgram}
 use Rattle.pale_top.specs.Checking.{status_of}
 use Rattle.pale_top.specs.Generating.{gen_line}
-use Rattle.program_meet.specs.declared.ways.MeetWay.{MeetWay}
-use Rattle.program_meet.specs.Meets.{ReportsMeets, AreStartsDecided, totals_of}
+use Rattle.program_judge.specs.declared.meet_way.MeetWay.{MeetWay}
+use Rattle.program_judge.specs.Meets.{ReportsMeets, AreStartsDecided, totals_of}
 use Rattle.pale_top.specs.Judging.{status_of_way}
 use Rattle.pale_top.specs.Meeting.{meet_status}
 

@@ -13,8 +13,8 @@ use Rattle.pale_modes.specs.Texts.{most_bytes}
 use Rattle.program_judge.specs.declared.ways.FieldWay.{FieldWay}
 use Rattle.program_judge.specs.Lines.{stopped_line}
 use Rattle.program_judge.specs.Reports.{pointer_fields, is_functional, stopped_ending, ReportsFields}
-use Rattle.program_meet.specs.declared.ways.MeetWay.{MeetWay}
-use Rattle.program_meet.specs.Meets.{ReportsMeets, is_empty, is_at_limit, totals_of}
+use Rattle.program_judge.specs.declared.meet_way.MeetWay.{MeetWay}
+use Rattle.program_judge.specs.Meets.{ReportsMeets, is_empty, is_at_limit, totals_of}
 use Rattle.pale_top.specs.Checking.{status_of}
 
 -- a triple that no store meets counts before one at the limit

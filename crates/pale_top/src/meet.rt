@@ -10,7 +10,7 @@ ghost use Rattle.hoare_split.specs.Fitting.{FitsProgram};
 ghost use Rattle.pale_words.specs.Words.{IsLimit};
 ghost use Rattle.pale_modes.specs.Written.{Wrote, WroteAtMost};
 ghost use Rattle.pale_modes.specs.Texts.{most_bytes};
-ghost use Rattle.program_meet.specs.Meets.{ReportsMeet, ReportsMeets, is_at_limit, is_empty};
+ghost use Rattle.program_judge.specs.Meets.{ReportsMeet, ReportsMeets, is_at_limit, is_empty};
 ghost use Rattle.pale_top.specs.Meeting.{MeetsProgram, MeetsText, meet_status};
 
 use crate::check::status_of;
@@ -19,8 +19,7 @@ use bdd_nodes::Shelf;
 use pale_io::{Sink, WriteStop, write_all};
 use pale_modes::{Status, refuse};
 use pale_typed::Typed;
-use program_judge::{are_functional, stopped_ending};
-use program_meet::{MeetWay, meet_report, meet_totals};
+use program_judge::{MeetWay, are_functional, meet_report, meet_totals, stopped_ending};
 use std::alloc::Global;
 use store_exec::Triple;
 use whole_program::{WholeProgram, read_program};

@@ -23,7 +23,7 @@ use pale_modes::{
     texts_within_their_peaks_are_decided,
 };
 use pale_words::{Mode, Settings, WordsStop, read_words};
-use program_meet::laws::starts_are_told_within_their_peaks;
+use program_judge::meet_laws::starts_are_told_within_their_peaks;
 use program_promises::{
     good_reports_have_safe_runs, reports_tell_each_within_its_peak,
     reports_within_the_peaks_are_verdicts, texts_have_one_reading,

@@ -4,3 +4,6 @@ pub mod FieldsLemmas
 pub mod StandingLemmas
 pub mod EndingLemmas
 mod TellingLemmas
+pub mod AskingLemmas
+pub mod MeetReportLemmas
+pub mod MeetTellingLemmas

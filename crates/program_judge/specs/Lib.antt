@@ -1,2 +1,4 @@
 pub mod Lines
 pub mod Reports
+pub mod Starts
+pub mod Meets

@@ -56,12 +56,8 @@ pub(crate) fn push_field_limit(
 
 // ---- triples
 
-/// Writes `triple K PROC line L`, with which each line on a triple begins.
-///
-/// # Errors
-///
-/// Want of memory.
-pub fn push_triple_head(
+/// `triple K PROC line L`
+pub(crate) fn push_triple_head(
     alloc: Global,
     text: &mut Vec<u8>,
     number: u64,
@@ -92,12 +88,8 @@ pub(crate) fn push_valid(
     text.extend_from_slice(b" valid\n")
 }
 
-/// Writes `triple K PROC line L limit`.
-///
-/// # Errors
-///
-/// Want of memory.
-pub fn push_limit(
+/// `triple K PROC line L limit`
+pub(crate) fn push_limit(
     alloc: Global,
     text: &mut Vec<u8>,
     number: u64,

@@ -36,7 +36,7 @@ pub fn limit_count(ways: &[TripleWay]) -> usize
 }
 
 /// The word and the number behind it.
-fn push_count(
+pub(crate) fn push_count(
     alloc: Global,
     text: &mut Vec<u8>,
     word: &[u8],

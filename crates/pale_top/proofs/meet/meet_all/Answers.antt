@@ -2,7 +2,7 @@ use Rattle.std.proofs.Common.{◌≡◌, ◌∙◌, ℕ, List, ap, subst, sym}
 use Rattle.bdd_nodes.specs.Shelf.{limit_of}
 use Rattle.pale_io.specs.Whole.{WritesAll, WritesFront}
 use Rattle.pale_modes.specs.declared.status.Status.{Status}
-use Rattle.program_meet.specs.Meets.{totals_of}
+use Rattle.program_judge.specs.Meets.{totals_of}
 use Rattle.pale_top.specs.Meeting.{MeetsProgram, meet_status}
 use Rattle.pale_modes.specs.Written.{Wrote}
 use Rattle.pale_modes.proofs.WrittenLemmas.{on_err}

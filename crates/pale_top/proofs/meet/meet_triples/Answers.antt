@@ -2,8 +2,8 @@ use Rattle.std.proofs.Common.{◌≡◌, ◌∙◌, ◌+◌, ◌<◌, ◌≤◌,
 use Rattle.bdd_nodes.specs.Shelf.{limit_of}
 use Rattle.store_exec.specs.declared.triple.Triple.{Triple}
 use Rattle.hoare_split.specs.Fitting.{FitsProgram}
-use Rattle.program_meet.specs.declared.ways.MeetWay.{MeetWay}
-use Rattle.program_meet.specs.Meets.{ReportsMeet}
+use Rattle.program_judge.specs.declared.meet_way.MeetWay.{MeetWay}
+use Rattle.program_judge.specs.Meets.{ReportsMeet}
 use Rattle.pale_modes.specs.Written.{Wrote, WroteAtMost}
 use Rattle.pale_modes.proofs.WrittenLemmas.{on_err}
 use Rattle.pale_top.proofs.MeetingLemmas.{MeetsWrote, meets_start, meets_next, meets_begin, meet_begins, meets_whole}

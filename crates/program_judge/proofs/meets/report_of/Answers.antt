@@ -7,8 +7,8 @@ use Rattle.triple_judge.specs.declared.judging.Judged.{Judged}
 use Rattle.triple_judge.specs.Judging.{IsJudged}
 use Rattle.triple_judge.specs.Standing.{CanBeJudged}
 use Rattle.program_judge.proofs.StandingLemmas.{can-be-judged}
-use Rattle.program_meet.proofs.ReportingLemmas.{report-empty, report-met, report-limit}
-use Rattle.program_meet.proofs.reports.report_of.Goals as goal
+use Rattle.program_judge.proofs.MeetReportLemmas.{report-empty, report-met, report-limit}
+use Rattle.program_judge.proofs.meets.report_of.Goals as goal
 
 pub judge-requires-clause-triple : goal.judge-requires-clause-triple
 judge-requires-clause-triple g c =

@@ -12,10 +12,10 @@ use Rattle.hoare_split.specs.Fitting.{FitsProgram}
 use Rattle.triple_judge.specs.Judging.{IsValid, IsLeastFailing, HasTriplePeak}
 use Rattle.program_judge.specs.Lines.{limit_line}
 use Rattle.program_judge.proofs.StandingLemmas.{vars-same, proc-same}
-use Rattle.program_meet.specs.declared.ways.MeetWay.TheVariants as way
-use Rattle.program_meet.specs.Starts.{asking, IsUnmet, IsLeastMeeting, HasStartPeak}
-use Rattle.program_meet.specs.Meets.{met_line, empty_line, ReportsMeet, met, empty, at_limit}
-use Rattle.program_meet.proofs.AskingLemmas.{valid-unmet, failing-meeting}
+use Rattle.program_judge.specs.declared.meet_way.MeetWay.TheVariants as way
+use Rattle.program_judge.specs.Starts.{asking, IsUnmet, IsLeastMeeting, HasStartPeak}
+use Rattle.program_judge.specs.Meets.{met_line, empty_line, ReportsMeet, met, empty, at_limit}
+use Rattle.program_judge.proofs.AskingLemmas.{valid-unmet, failing-meeting}
 
 module _ (limit : ℕ) (program : TypedProgram) (k : ℕ) (t : Triple) (own : FitsProgram program t) (types : List TypeEntry) (same : types ≡ program.types)
     (vars : List VarEntry) (vars-at : Some vars ≡ option_map (λ (e : ProcEntry). e.vars) (slice_get program.procs t.proc))

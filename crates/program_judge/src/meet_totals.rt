@@ -1,12 +1,11 @@
 //! The totals of starts.
 
-ghost use Rattle.std.specs.Prelude.{◌≡◌, ◌++◌, count_by, IfOk, OnOk};
-ghost use Rattle.std.specs.Fmt.{decimal};
-ghost use Rattle.program_meet.specs.Meets as meets;
+ghost use Rattle.std.specs.Prelude.{◌≡◌, count_by, IfOk};
+ghost use Rattle.program_judge.specs.Meets as meets;
 
-use crate::ways::MeetWay;
+use crate::meet_way::MeetWay;
+use crate::totals::push_count;
 use std::alloc::{AllocError, Global};
-use store_words::push_number;
 
 fn met_count(ways: &[MeetWay]) -> usize
     ensures { result ≡ count_by meets.is_met ways.now }
@@ -30,19 +29,6 @@ fn limit_count(ways: &[MeetWay]) -> usize
     ways.iter()
         .filter(|way| matches!(**way, MeetWay::Limit))
         .count()
-}
-
-/// The word and the number behind it.
-fn push_count(
-    alloc: Global,
-    text: &mut Vec<u8>,
-    word: &[u8],
-    count: usize,
-) -> Result<(), AllocError>
-    ensures { OnOk result (text.new.items ≡ text.old.items ++ (word.now ++ decimal count)) }
-{
-    text.extend_from_slice(word)?;
-    push_number(alloc, text, count as u64)
 }
 
 /// `triples T met M empty E limit X`

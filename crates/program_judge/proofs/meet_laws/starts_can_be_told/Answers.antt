@@ -1,5 +1,5 @@
-use Rattle.program_meet.proofs.TellingLemmas.{meet-told, meets-rest}
-use Rattle.program_meet.proofs.laws.starts_can_be_told.Goals as goal
+use Rattle.program_judge.proofs.MeetTellingLemmas.{meet-told, meets-rest}
+use Rattle.program_judge.proofs.meet_laws.starts_can_be_told.Goals as goal
 
 pub returns-clause-each : goal.returns-clause-each
 returns-clause-each c limit program k t fits every own = meet-told limit program fits every k t own

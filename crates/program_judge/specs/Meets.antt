@@ -7,9 +7,9 @@ use Rattle.store_text.specs.StoreText.{store_text_of}
 use Rattle.pale_typed.specs.declared.typed.ProcEntry.{ProcEntry}
 use Rattle.pale_typed.specs.TypedPrograms.{TypedProgram}
 use Rattle.program_judge.specs.Lines.{triple_head, limit_line}
-use Rattle.program_meet.specs.declared.ways.MeetWay.{MeetWay}
-use Rattle.program_meet.specs.declared.ways.MeetWay.TheVariants as way
-use Rattle.program_meet.specs.Starts.{IsUnmet, IsLeastMeeting, HasStartPeak}
+use Rattle.program_judge.specs.declared.meet_way.MeetWay.{MeetWay}
+use Rattle.program_judge.specs.declared.meet_way.MeetWay.TheVariants as way
+use Rattle.program_judge.specs.Starts.{IsUnmet, IsLeastMeeting, HasStartPeak}
 
 -- ---- lines
 

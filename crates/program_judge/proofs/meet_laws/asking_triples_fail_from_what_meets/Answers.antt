@@ -1,5 +1,5 @@
-use Rattle.program_meet.proofs.AskingLemmas.{meets-asking, asking-meets, unmet-valid, valid-unmet}
-use Rattle.program_meet.proofs.laws.asking_triples_fail_from_what_meets.Goals as goal
+use Rattle.program_judge.proofs.AskingLemmas.{meets-asking, asking-meets, unmet-valid, valid-unmet}
+use Rattle.program_judge.proofs.meet_laws.asking_triples_fail_from_what_meets.Goals as goal
 
 pub returns-clause-same : goal.returns-clause-same
 returns-clause-same c = meets-asking

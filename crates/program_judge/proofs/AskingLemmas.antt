@@ -12,7 +12,7 @@ use Rattle.store_exec.specs.Failing.{Meets, Fails}
 use Rattle.pale_typed.specs.TypedPrograms.{TypedProgram}
 use Rattle.hoare_split.specs.Fitting.{FitsProgram}
 use Rattle.triple_judge.specs.Judging.{IsValid, IsLeastFailing}
-use Rattle.program_meet.specs.Starts.{asking, IsUnmet, IsLeastMeeting}
+use Rattle.program_judge.specs.Starts.{asking, IsUnmet, IsLeastMeeting}
 
 module _ (types : List TypeEntry) (vars : List VarEntry) (t : Triple) where
   pub meets-asking : (s : StoreMap) → Meets types vars t s → Meets types vars (asking t) s

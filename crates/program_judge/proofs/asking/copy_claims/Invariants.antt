@@ -1,5 +1,5 @@
 use Rattle.std.proofs.Common.{◌≡◌, take}
-use Rattle.program_meet.proofs.asking.copy_claims.Given as goal
+use Rattle.program_judge.proofs.asking.copy_claims.Given as goal
 
 -- the claims so far are copied
 abbrev pub invariant-loop-claim : goal.invariant-loop-claim

@@ -6,14 +6,14 @@ ghost use Rattle.gta_keep.specs.Holding.{HasNoTables};
 ghost use Rattle.witness_store.specs.Alike.{AreFunctional};
 ghost use Rattle.pale_typed.specs.Fitting.{ProgramFits};
 ghost use Rattle.hoare_split.specs.Fitting.{FitsProgram};
-ghost use Rattle.program_meet.specs.Meets.{ReportsMeet, met_line, empty_line};
-ghost use Rattle.program_meet.specs.Starts.{asking};
+ghost use Rattle.program_judge.specs.Meets.{ReportsMeet, met_line, empty_line};
+ghost use Rattle.program_judge.specs.Starts.{asking};
 
 use crate::asking::asking;
-use crate::ways::MeetWay;
+use crate::lines::{push_limit, push_triple_head};
+use crate::meet_way::MeetWay;
 use bdd_nodes::Shelf;
 use pale_typed::Typed;
-use program_judge::{push_limit, push_triple_head};
 use std::alloc::{AllocError, Global};
 use store_exec::Triple;
 use store_text::store_text;

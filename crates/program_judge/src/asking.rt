@@ -1,7 +1,7 @@
 //! The triple that asks for the stores which meet another one.
 
 ghost use Rattle.std.specs.Prelude.{◌≡◌, ◌∷◌, [], IfOk};
-ghost use Rattle.program_meet.specs.Starts.{asking, bare_cut, falsehood};
+ghost use Rattle.program_judge.specs.Starts.{asking, bare_cut, falsehood};
 
 use plain_data::Items;
 use std::alloc::{AllocError, Global};

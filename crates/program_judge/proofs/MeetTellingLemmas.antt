@@ -12,11 +12,11 @@ use Rattle.pale_typed.specs.Fitting.{ProgramFits}
 use Rattle.hoare_split.specs.Fitting.{FitsProgram}
 use Rattle.triple_judge.proofs.ExistenceLemmas.{judged-somehow}
 use Rattle.program_judge.proofs.StandingLemmas.{can-be-judged-by}
-use Rattle.program_meet.specs.declared.ways.MeetWay.{MeetWay}
-use Rattle.program_meet.specs.declared.ways.MeetWay.TheVariants as way
-use Rattle.program_meet.specs.Starts.{asking}
-use Rattle.program_meet.specs.Meets.{met_line, empty_line, ReportsMeet, met, empty, at_limit, ReportsMeets, no_triple, next_triple, IsStartWithin, AreStartsDecided}
-use Rattle.program_meet.proofs.AskingLemmas.{asking-fits, valid-unmet, failing-meeting}
+use Rattle.program_judge.specs.declared.meet_way.MeetWay.{MeetWay}
+use Rattle.program_judge.specs.declared.meet_way.MeetWay.TheVariants as way
+use Rattle.program_judge.specs.Starts.{asking}
+use Rattle.program_judge.specs.Meets.{met_line, empty_line, ReportsMeet, met, empty, at_limit, ReportsMeets, no_triple, next_triple, IsStartWithin, AreStartsDecided}
+use Rattle.program_judge.proofs.AskingLemmas.{asking-fits, valid-unmet, failing-meeting}
 
 module _ (limit : ℕ) (program : TypedProgram) where
   pub meets-joined : (k : ℕ) (ts us : List Triple) (l m : List ℕ) (v w : List MeetWay) → ReportsMeets limit program k ts l v →

@@ -10,9 +10,9 @@ ghost use Rattle.pale_typed.specs.TypedPrograms.{TypedProgram};
 ghost use Rattle.pale_typed.specs.Fitting.{ProgramFits};
 ghost use Rattle.hoare_split.specs.Fitting.{FitsProgram};
 ghost use Rattle.triple_judge.specs.Judging.{IsValid};
-ghost use Rattle.program_meet.specs.declared.ways.MeetWay.{MeetWay};
-ghost use Rattle.program_meet.specs.Starts.{asking, IsUnmet, IsLeastMeeting};
-ghost use Rattle.program_meet.specs.Meets.{ReportsMeet, ReportsMeets, AreStartsDecided};
+ghost use Rattle.program_judge.specs.declared.meet_way.MeetWay.{MeetWay};
+ghost use Rattle.program_judge.specs.Starts.{asking, IsUnmet, IsLeastMeeting};
+ghost use Rattle.program_judge.specs.Meets.{ReportsMeet, ReportsMeets, AreStartsDecided};
 
 use triple_judge::laws::triples_have_one_peak;
 
