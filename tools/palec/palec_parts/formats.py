@@ -1,0 +1,94 @@
+"""The findings for machines: JSON, SARIF 2.1.0, and the commands of a GitHub workflow."""
+import json
+
+from .hints import CAUSES, refusal_sentence
+from .telling import KEYWORDS
+
+
+def place_of(told, finding):
+    """The line and column that a finding points to."""
+    if finding.kind == "refused":
+        return finding.line or 1, finding.column or 1
+    if finding.kind == "triple" and finding.line:
+        token = told.source.first_on(finding.at if finding.verdict == "invalid" else finding.line, KEYWORDS)
+        return token.line, token.column
+    return 1, 1
+
+
+def is_fault(finding):
+    return finding.kind == "refused" or finding.verdict in ("invalid", "ambiguous", "limit", "no answer")
+
+
+def sentence_of(finding):
+    if finding.kind == "refused":
+        return refusal_sentence(finding)
+    if finding.kind == "field":
+        return f"the field {finding.procedure} is ambiguous" if finding.verdict == "ambiguous" else f"the field {finding.procedure} met the limit"
+    if finding.verdict == "invalid":
+        return f"triple {finding.number} of {finding.procedure} can fail: {CAUSES.get(finding.cause, ('it fails', ''))[0]}"
+    return f"triple {finding.number}: {finding.verdict}"
+
+
+def store_of(store):
+    if store is None:
+        return None
+    cells = [{"number": it.number, "type": it.type, "fields": dict(it.values)} for it in store.cells]
+    return {"variables": dict(store.variables), "cells": cells}
+
+
+def entries(all_told):
+    """One object for each finding, and one for each start that no store meets."""
+    for told in all_told:
+        for finding in told.findings:
+            if finding.kind in ("stopped", "other") and not is_fault(finding):
+                continue
+            line, column = place_of(told, finding)
+            yield {
+                "file": told.source.path, "kind": finding.kind, "line": line, "column": column, "verdict": finding.verdict or finding.kind,
+                "cause": finding.cause or finding.word or None, "triple": finding.number or None, "name": finding.procedure or None,
+                "starts": finding.line if finding.kind == "triple" else None, "met": finding.number not in told.unmet if finding.kind == "triple" else None,
+                "message": sentence_of(finding), "store": store_of(finding.store),
+            }
+
+
+def as_json(all_told):
+    return "".join(json.dumps(it) + "\n" for it in entries(all_told))
+
+
+def rule_of(entry):
+    return f"{entry['kind']}/{entry['cause'] or entry['verdict']}".replace(" ", "-")
+
+
+def as_sarif(all_told, version):
+    results, rules = [], {}
+    for entry in entries(all_told):
+        unmet = entry["met"] is False and entry["verdict"] == "valid"
+        if entry["verdict"] == "valid" and not unmet:
+            continue
+        rule = "triple/unmet" if unmet else rule_of(entry)
+        rules.setdefault(rule, {"id": rule, "shortDescription": {"text": "no store meets the triple" if unmet else entry["message"]}})
+        region = {"startLine": entry["line"], "startColumn": entry["column"]}
+        results.append({
+            "ruleId": rule, "level": "warning" if unmet or entry["verdict"] in ("limit", "no answer") else "error",
+            "message": {"text": "no store meets the triple" if unmet else entry["message"]},
+            "locations": [{"physicalLocation": {"artifactLocation": {"uri": entry["file"]}, "region": region}}],
+        })
+    tool = {"driver": {"name": "palec", "version": version, "rules": list(rules.values())}}
+    schema = "https://json.schemastore.org/sarif-2.1.0.json"
+    return json.dumps({"$schema": schema, "version": "2.1.0", "runs": [{"tool": tool, "results": results}]}, indent=1) + "\n"
+
+
+def escaped(text):
+    return text.replace("%", "%25").replace("\r", "%0D").replace("\n", "%0A").replace(":", "%3A").replace(",", "%2C")
+
+
+def as_github(all_told):
+    lines = []
+    for entry in entries(all_told):
+        unmet = entry["met"] is False and entry["verdict"] == "valid"
+        if entry["verdict"] == "valid" and not unmet:
+            continue
+        level = "warning" if unmet or entry["verdict"] in ("limit", "no answer") else "error"
+        text = "no store meets the triple" if unmet else entry["message"]
+        lines.append(f"::{level} file={escaped(entry['file'])},line={entry['line']},col={entry['column']}::{text.replace('%', '%25')}\n")
+    return "".join(lines)

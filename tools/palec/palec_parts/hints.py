@@ -1,0 +1,117 @@
+"""What a refusal or a failure means, in a sentence, and how it is usually mended. The pages are docs/answers.md and docs/language.md."""
+from .grammar import expected_at, reserved_words
+
+REFUSALS = {
+    "char": "no token begins with this byte",
+    "syntax": "this can't stand here",
+    "deep": "more than 200 levels are open here",
+    "too-long": "the text has more than 1,048,576 bytes",
+    "duplicate": "this name is there already",
+    "unknown": "nothing of this name is known here",
+    "kind": "this is of another kind than its place wants",
+    "type": "this is of another type than its place wants",
+    "arity": "these are more, or fewer, than the declaration has",
+    "many-types": "a program has at most so many types",
+    "many-fields": "a type has at most so many fields",
+    "many-vars": "a procedure has at most so many variables",
+    "many-variants": "a type has at most so many variants",
+    "long-part": "a triple has at most 128 atoms: put a `split` between the statements",
+    "many-new": "a triple makes at most 64 cells: put a `split` between the statements",
+    "big-formula": "the assertion is too large with its predicates put in",
+    "big-route": "a route has at most 1,024 nodes",
+    "long-path": "a path has at most 1,024 fields",
+}
+
+CAUSES = {
+    "null": ("it goes through null", "test the variable before, or say in the precondition or invariant that it isn't null"),
+    "dangling": ("it reads through a cell that was freed", "set pointers to a cell to another one, or to null, before it is freed"),
+    "double-free": ("it frees a cell that was freed already", "free each cell once"),
+    "variant": ("the cell is of a variant without this field", "test the variant before, by `x:V`"),
+    "assert": ("the assertion is false", "see the store at the start, and replay it"),
+    "dangling-ref": ("a field or variable still names a freed cell", "set it to null, or to another cell, before the cut"),
+    "shared": ("two data fields or variables lead to one cell", "set one of them to null"),
+    "leak": ("a cell is lost: no data variable leads to it", "keep a data variable on it, or free it"),
+    "field": ("a pointer field isn't what its route says", "set the field again after the change"),
+    "escape": ("a pointer leads out of the part that a call hands over, or into it", "set it to null before the call"),
+    "post": ("what has to hold here doesn't", "see which part of the assertion is false in the store"),
+}
+
+# What writers of other languages write, and what stands for it here.
+HABITS = {
+    "->": "a field is read by a dot: `x.next`",
+    "NULL": "the empty pointer is `null`",
+    "nullptr": "the empty pointer is `null`",
+    "nil": "the empty pointer is `null`",
+    "//": "a comment begins with `#`",
+    "/*": "a comment begins with `#` and goes to the end of the line",
+    "return": "a procedure gives back what its results hold: assign them",
+    "ensures": "the word is `post`, with brackets: `post [ .. ]`",
+    "requires": "the word is `pre`, with brackets: `pre [ .. ]`",
+    "invariant": "a loop's invariant stands in brackets behind its condition: `while (c) [ .. ] { .. }`",
+    "method": "the word is `proc`",
+    "procedure": "the word is `proc`",
+    "function": "the word is `proc`, or `pred` for a predicate",
+    "var": "a local is declared by its kind: `data x: T;`, `pointer p: T;` or `bool b;`",
+    "forall": "the word is `all`: `all x: T: ..`",
+    "exists": "the word is `ex`: `ex x: T: ..`",
+    "delete": "the word is `free`",
+    "dispose": "the word is `free`",
+    "struct": "the word is `type`: `type T = { .. }`",
+    "boolean": "the word is `bool`",
+}
+
+
+def habit_at(source, finding):
+    """What is known of the words at a place, from other languages."""
+    line = source.line(finding.line)
+    found = source.token_at(finding.line, finding.column)
+    text = found.text if found else ""
+    before = [it for it in source.tokens() if (it.line, it.column) < (finding.line, finding.column)]
+    last = before[-1].text if before else ""
+    rest = line.encode()[finding.column - 1:].decode("utf-8", "replace")
+    for word, hint in HABITS.items():
+        if text == word or rest.startswith(word) or last == word and not word.isalpha():
+            return hint
+    if (last, text) == ("-", ">") or rest.startswith("->"):
+        return HABITS["->"]
+    if text == "if" and last == "else":
+        return "an `else` is followed by braces: `else { if (..) { .. } }`"
+    if text == "{" and any(it.text == "while" and it.line == finding.line for it in before):
+        return "a loop has an invariant in brackets between its condition and its braces: `while (c) [ .. ] { .. }`"
+    if text == "pre" and "post" in {it.text for it in before[-200:]}:
+        return "`pre` stands before `post`"
+    if text in ("==", "!="):
+        return "in an assertion the marks are `=` and `~=`; `==` and `!=` belong to conditions of code"
+    if text in ("=", "~="):
+        return "in a condition of code the marks are `==` and `!=`; `=` and `~=` belong to assertions"
+    if text in ("&&", "||"):
+        return "in an assertion the marks are `&` and `|`"
+    if text in ("&", "|"):
+        return "in a condition of code the marks are `&&` and `||`"
+    if text == "(" and before and before[-1].kind == "name":
+        return "a procedure is called by `call`: `call y = p(x);`"
+    if text in reserved_words() and last in (":", ".", "data", "pointer", "bool", "type", "proc", "pred", ","):
+        return f"`{text}` is a word of the language, and can't be a name"
+    if before and before[-1].line < finding.line and last not in (";", "{", "}", "]", ")"):
+        return "perhaps a `;` is missing on the line before"
+    return ""
+
+
+def refusal_sentence(finding):
+    return REFUSALS.get(finding.word, f"refused as `{finding.word}`")
+
+
+def refusal_help(source, finding):
+    """Lines of help on a refusal: a habit, and the words that may stand there."""
+    helps = []
+    if source.data.startswith(b"\xef\xbb\xbf"):
+        helps.append("the file begins with a byte order mark: save it without one")
+    if finding.word in ("syntax", "char"):
+        hint = habit_at(source, finding)
+        if hint:
+            helps.append(hint)
+    if finding.word == "syntax":
+        words = expected_at(source, finding.line, finding.column)
+        if words:
+            helps.append("here may stand " + ", ".join(it if it == "a name" else f"`{it}`" for it in words[:12]) + (", .." if len(words) > 12 else ""))
+    return helps

@@ -1,0 +1,58 @@
+"""The text of a program: its lines and tokens, by the rules of docs/language.md."""
+import re
+from dataclasses import dataclass
+from pathlib import Path
+
+TOKEN = re.compile(rb"#[^\n]*|[ \t\r\n]+|(?P<name>[A-Za-z][A-Za-z0-9_]*)|(?P<number>[0-9]+)"
+                   rb"|(?P<mark><=>|==|=>|!=|~=|&&|\|\||[=!~&|<>()\[\]{}:;,.*+^$@?])|(?P<other>.)", re.S)
+
+
+@dataclass
+class Token:
+    """A word of the text, with its line and column, counted in bytes from 1. `kind` is name, number, mark, other or end."""
+
+    kind: str
+    text: str
+    line: int
+    column: int
+
+
+class Source:
+    """A program's file."""
+
+    def __init__(self, path, data=None):
+        self.path = str(path)
+        self.data = Path(path).read_bytes() if data is None else data
+        self.lines = self.data.decode("utf-8", "replace").split("\n")
+        self._tokens = None
+
+    def tokens(self):
+        """All tokens, and one at the end of the text."""
+        if self._tokens is None:
+            self._tokens, line, start = [], 1, 0
+            for found in TOKEN.finditer(self.data):
+                if found.lastgroup:
+                    text = found.group().decode("utf-8", "replace")
+                    self._tokens.append(Token(found.lastgroup, text, line, found.start() - start + 1))
+                newlines = found.group().count(b"\n")
+                if newlines:
+                    line += newlines
+                    start = found.start() + found.group().rindex(b"\n") + 1
+            self._tokens.append(Token("end", "", line, len(self.data) - start + 1))
+        return self._tokens
+
+    def token_at(self, line, column):
+        """The token that begins there, if one does."""
+        return next((it for it in self.tokens() if (it.line, it.column) == (line, column)), None)
+
+    def first_on(self, line, prefer=()):
+        """The token that a finding at a line points to: the first of those words on it, else the first one, else the line's beginning."""
+        here = [it for it in self.tokens() if it.line == line and it.kind != "end"]
+        return next((it for it in here if it.text in prefer), here[0] if here else Token("other", " ", line, 1))
+
+    def line(self, number):
+        return self.lines[number - 1] if 0 < number <= len(self.lines) else ""
+
+    def has_cut_line(self):
+        """Whether a line is `---`, at which a text would be cut."""
+        return b"---" in self.data.split(b"\n")
