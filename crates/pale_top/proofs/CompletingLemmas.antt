@@ -163,7 +163,8 @@ module _ (laws : Laws) (text : List ℕ) (short : length text ≤ most_bytes) wh
     };
     judge = λ asks program triples r spells. record {
       output = wrote.output;
-      allowed = judged.judged_each (record { one = laws.one; apart = laws.apart; fields = laws.fields; triple = laws.triple }) text settings.limit program triples r spells
+      allowed = judged.judged_each (record { one = laws.one; apart = laws.apart; fields = laws.fields; triple = laws.triple })
+          text settings.limit program triples r spells
           wrote.output status short (by Judge asks);
       written = wrote.written;
     };

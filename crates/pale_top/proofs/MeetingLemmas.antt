@@ -64,7 +64,8 @@ module _ (limit : ℕ) (program : TypedProgram) (triples : List Triple) (fits : 
 
   ends : (i : ℕ) (lines : List ℕ) (ways : List MeetWay) → ReportsMeets limit program 1 (take i triples) lines ways → Ends lines
   ends i lines ways reports =
-      let (l, w, all) = meets-rest limit program fits every triples (take i triples) (drop i triples) lines ways own (sym (take-append-drop i triples)) reports in
+      let (l, w, all) = meets-rest limit program fits every triples (take i triples) (drop i triples) lines ways own
+      (sym (take-append-drop i triples)) reports in
       let totals : List ℕ = totals_of (ways ++ w) in
       let count : 0 < length totals = some_totals (ways ++ w) in
       record {

@@ -1,5 +1,6 @@
 -- What a text without a fault gets, whatever its size: in `check` a verdict on each field and on each triple whose own Peak is within
--- the limit, in `judge` the same for what is asked for, in `meet` on each field and start, in `ws2s` an answer where its Peak is, and in `replay` and `format` an answer always.
+-- the limit, in `judge` the same for what is asked for, in `meet` on each field and start, in `ws2s` an answer
+-- where its Peak is, and in `replay` and `format` an answer always.
 use Rattle.std.specs.Prelude.{◌≡◌, ◌⊎◌, ◌++◌, ℕ, suc, true, false, List, [], length, slice_get, Some, Option}
 use Rattle.std.specs.List.{list_all}
 use Rattle.store_core.specs.Stores.{StoreMap}

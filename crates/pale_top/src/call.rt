@@ -31,12 +31,9 @@ fn reads_text(alloc: Global, words: &Vec<String>) -> Result<bool, AllocError>
     match read_words(alloc, words) {
         Ok(settings) => match settings.mode {
             Mode::Gen => Ok(false),
-            Mode::Check
-            | Mode::Replay
-            | Mode::Format
-            | Mode::Ws2s
-            | Mode::Judge
-            | Mode::Meet => Ok(true),
+            Mode::Check | Mode::Replay | Mode::Format | Mode::Ws2s | Mode::Judge | Mode::Meet => Ok(
+                true,
+            ),
         },
         Err(WordsStop::Refused) => Ok(false),
         Err(WordsStop::NoMemory) => Err(AllocError),

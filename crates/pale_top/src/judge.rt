@@ -51,7 +51,8 @@ fn judge_asked<K: Sink>(
     requires functional { AreFunctional whole.now.typed.types }
     requires tables { HasNoTables shelf.old }
     ensures ok { IfOk result (Wrote (JudgesRequest (limit_of shelf.old) whole.now.typed whole.now.triples request) (K.written sink.old) (K.written sink.new)) }
-    ensures err { OnErr result (WroteAtMost (JudgesRequest (limit_of shelf.old) whole.now.typed whole.now.triples request) (K.written sink.old) (K.written sink.new)) }
+    ensures err { OnErr result (WroteAtMost (JudgesRequest (limit_of shelf.old) whole.now.typed whole.now.triples request)
+        (K.written sink.old) (K.written sink.new)) }
     ensures failed { IsErrOf result WriteStop.Failed → Rose (K.faults sink.old) (K.faults sink.new) }
     ensures kept { K.faults sink.old ≤ K.faults sink.new }
 {
@@ -61,7 +62,15 @@ fn judge_asked<K: Sink>(
             let Some(t) = whole.triples.get(number as usize - 1) else {
                 unreachable!()
             };
-            let way = check_triple(alloc, &whole.typed, u64::from(number), t, passes, shelf, sink)?;
+            let way = check_triple(
+                alloc,
+                &whole.typed,
+                u64::from(number),
+                t,
+                passes,
+                shelf,
+                sink,
+            )?;
             Ok(status_of_way(way))
         }
     }

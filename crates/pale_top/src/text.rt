@@ -79,12 +79,8 @@ fn obey<K: Sink>(
 {
     match settings.mode {
         Mode::Gen => gen_text(alloc, settings.limit, settings.seed, passes, sink),
-        Mode::Check
-        | Mode::Replay
-        | Mode::Format
-        | Mode::Ws2s
-        | Mode::Judge
-        | Mode::Meet => answer_text(alloc, settings, text, passes, sink),
+        Mode::Check | Mode::Replay | Mode::Format | Mode::Ws2s | Mode::Judge | Mode::Meet =>
+            answer_text(alloc, settings, text, passes, sink),
     }
 }
 

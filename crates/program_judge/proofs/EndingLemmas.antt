@@ -194,8 +194,8 @@ module _ (limit : ℕ) (program : TypedProgram) (triples : List Triple) (fits : 
       fields-end-by lines l all whole (list_all is_functional all) refl
 
 -- nothing is written of fields that are told to be functional
-pub functional-silent : (limit : ℕ) (types : List TypeEntry) (fs : List FieldId) (lines : List ℕ) (ways : List FieldWay) → ReportsFields limit types fs lines ways →
-    list_all is_functional ways ≡ true → lines ≡ []
+pub functional-silent : (limit : ℕ) (types : List TypeEntry) (fs : List FieldId) (lines : List ℕ) (ways : List FieldWay) →
+    ReportsFields limit types fs lines ways → list_all is_functional ways ≡ true → lines ≡ []
 functional-silent limit types _ _ _ no_field good = refl
 functional-silent limit types _ _ _ (next_field f fs way ways lines others report more) good =
     let both = first-good way ways good in

@@ -1,5 +1,6 @@
 -- Something can be told of each start, and so of all that are left.
-use Rattle.std.proofs.Common.{◌≡◌, ◌∙◌, ◌⊎◌, inl, inr, ◌+◌, ◌<◌, ◌≤◌, ◌++◌, ℕ, zero, suc, Some, List, [], ◌∷◌, length, refl, sym, subst, arith, append_assoc, append-nil}
+use Rattle.std.proofs.Common.{◌≡◌, ◌∙◌, ◌⊎◌, inl, inr, ◌+◌, ◌<◌, ◌≤◌, ◌++◌, ℕ, zero, suc, Some, List, [], ◌∷◌, length}
+use Rattle.std.proofs.Common.{refl, sym, subst, arith, append_assoc, append-nil}
 use Rattle.std.specs.Prelude.{All}
 use Rattle.std.proofs.lemmas.List.Elements.{All-head, All-tail}
 use Rattle.store_core.specs.Tables.{TypeEntry, VarEntry}
@@ -15,7 +16,8 @@ use Rattle.program_judge.proofs.StandingLemmas.{can-be-judged-by}
 use Rattle.program_judge.specs.declared.meet_way.MeetWay.{MeetWay}
 use Rattle.program_judge.specs.declared.meet_way.MeetWay.TheVariants as way
 use Rattle.program_judge.specs.Starts.{asking}
-use Rattle.program_judge.specs.Meets.{met_line, empty_line, ReportsMeet, met, empty, at_limit, ReportsMeets, no_triple, next_triple, IsStartWithin, AreStartsDecided}
+use Rattle.program_judge.specs.Meets.{met_line, empty_line, ReportsMeet, met, empty, at_limit, ReportsMeets, no_triple, next_triple}
+use Rattle.program_judge.specs.Meets.{IsStartWithin, AreStartsDecided}
 use Rattle.program_judge.proofs.AskingLemmas.{asking-fits, valid-unmet, failing-meeting}
 
 module _ (limit : ℕ) (program : TypedProgram) where

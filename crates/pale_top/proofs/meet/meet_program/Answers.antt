@@ -21,7 +21,8 @@ returns-in_err-ways-clause-err g c =
     let triples = c.args.whole.now.triples in
     let opened : limit_of c.in_ok-shelf.shelf ≡ limit = ap limit_of c.in_ok-shelf.ensures.empty in
     on_err c.from_residual-in_err-ways.result
-    (stop_among_fields limit program (MeetsProgram limit program triples) stopped a triples c.requires.program c.requires.triples b
+    (stop_among_fields limit program (MeetsProgram limit program triples) stopped a triples
+    c.requires.program c.requires.triples b
     (subst (λ (l : ℕ). WroteFields l program.types a b) opened c.in_err-ways.ensures.err))
 
 pub meet_all-requires-clause-functional : goal.meet_all-requires-clause-functional
@@ -53,7 +54,8 @@ returns-then-are_functional-clause-ok g c =
     let d = g.K.Sink.written c.meet_all.new.sink in
     let same : limit_of c.check_fields.new.shelf ≡ limit = c.in_ok-ways.ensures.same_limit ∙ opened in
     IfOk-weaker c.meet_all.result _ _
-    (λ status is. subst (λ (e : Option (List ℕ)). Wrote (MeetsProgram limit program triples) e d status) (behind_fields limit program.types a b ways fields good)
+    (λ status is. subst (λ (e : Option (List ℕ)). Wrote (MeetsProgram limit program triples) e d status)
+    (behind_fields limit program.types a b ways fields good)
     (subst (λ (l : ℕ). Wrote (MeetsProgram l program triples) b d status) same is)) c.meet_all.ensures.ok
 
 pub returns-then-are_functional-clause-err : goal.returns-then-are_functional-clause-err
@@ -71,7 +73,8 @@ returns-then-are_functional-clause-err g c =
     let d = g.K.Sink.written c.meet_all.new.sink in
     let same : limit_of c.check_fields.new.shelf ≡ limit = c.in_ok-ways.ensures.same_limit ∙ opened in
     on_err_weaker c.meet_all.result
-    (λ begun. subst (λ (e : Option (List ℕ)). WroteAtMost (MeetsProgram limit program triples) e d) (behind_fields limit program.types a b ways fields good)
+    (λ begun. subst (λ (e : Option (List ℕ)). WroteAtMost (MeetsProgram limit program triples) e d)
+    (behind_fields limit program.types a b ways fields good)
     (subst (λ (l : ℕ). WroteAtMost (MeetsProgram l program triples) b d) same begun)) c.meet_all.ensures.err
 
 pub returns-in_err-write_all-clause-err : goal.returns-in_err-write_all-clause-err

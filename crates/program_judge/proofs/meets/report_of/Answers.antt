@@ -13,4 +13,5 @@ use Rattle.program_judge.proofs.meets.report_of.Goals as goal
 pub judge-requires-clause-triple : goal.judge-requires-clause-triple
 judge-requires-clause-triple g c =
     subst (λ (ts : List TypeEntry). CanBeJudged ts c.in-Some.vars.now c.args.asked.now) (sym c.types-types.ensures)
-    (can-be-judged c.args.typed.now c.args.asked.now c.requires.triple c.in-Some.vars.now (ap (λ o. option_map (λ v. v.now) o) (sym c.in-Some.is) ∙ c.vars.ensures))
+    (can-be-judged c.args.typed.now c.args.asked.now c.requires.triple c.in-Some.vars.now
+    (ap (λ o. option_map (λ v. v.now) o) (sym c.in-Some.is) ∙ c.vars.ensures))
