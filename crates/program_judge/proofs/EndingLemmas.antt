@@ -1,5 +1,5 @@
 -- Whatever was told so far of fields or of triples, more can be told until the end.
-use Rattle.std.proofs.Common.{◌≡◌, ◌⊎◌, inl, inr, ◌+◌, ◌<◌, ◌++◌, ℕ, suc, Bool, true, false, List, [], ◌∷◌, length, slice_get, Some, Contains, refl, sym, ap}
+use Rattle.std.proofs.Common.{◌≡◌, inl, inr, ◌+◌, ◌<◌, ◌++◌, ℕ, suc, Bool, true, false, List, [], ◌∷◌, length, Contains, refl, sym, ap}
 use Rattle.std.proofs.Common.{subst, ◌∙◌, arith, append_assoc, length-append}
 use Rattle.std.specs.Prelude.{All}
 use Rattle.std.specs.List.{list_all}
@@ -11,7 +11,6 @@ use Rattle.store_core.specs.declared.kind.FieldKind.{FieldKind}
 use Rattle.store_core.specs.declared.kind.FieldKind.TheVariants as field
 use Rattle.store_core.specs.Tables.{TypeEntry, FieldEntry, field_at}
 use Rattle.store_core.proofs.FittingLemmas.{IsSomeAnd-at}
-use Rattle.witness_store.specs.Pointers.{IsPointerField}
 use Rattle.store_exec.specs.declared.triple.Triple.{Triple}
 use Rattle.store_text.specs.StoreText.{store_text_of}
 use Rattle.routing_walks.specs.Destinations.{IsPointer}

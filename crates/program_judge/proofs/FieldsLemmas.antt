@@ -4,7 +4,6 @@ use Rattle.std.proofs.Common.{subst, arith}
 use Rattle.std.specs.FinMap.{keys}
 use Rattle.std.proofs.lemmas.Bool.{cases_lt, false≢true}
 use Rattle.gta_theory.specs.Assignments.{Assignment, IsFinite}
-use Rattle.gta_theory.specs.Weights.{weight}
 use Rattle.gta_theory.proofs.AssignmentsLemmas.{Covers-finite}
 use Rattle.ws2s_core.proofs.SatisfactionLemmas.{WSat-And}
 use Rattle.ws2s_core.specs.Satisfaction.{WSat}

@@ -1,5 +1,5 @@
 -- Reports one after the other.
-use Rattle.std.proofs.Common.{◌≡◌, ◌+◌, ◌++◌, ℕ, suc, true, Bool, List, [], ◌∷◌, length, refl, sym, subst, arith, append_assoc, append-nil}
+use Rattle.std.proofs.Common.{◌≡◌, ◌+◌, ◌++◌, ℕ, suc, List, [], ◌∷◌, length, sym, subst, arith, append_assoc, append-nil}
 use Rattle.store_core.specs.declared.ids.FieldId.{FieldId}
 use Rattle.store_core.specs.Tables.{TypeEntry}
 use Rattle.store_exec.specs.declared.triple.Triple.{Triple}

@@ -17,6 +17,13 @@ use Rattle.program_judge.specs.Starts.{asking, IsUnmet, IsLeastMeeting, HasStart
 use Rattle.program_judge.specs.Meets.{met_line, empty_line, ReportsMeet, met, empty, at_limit}
 use Rattle.program_judge.proofs.AskingLemmas.{valid-unmet, failing-meeting}
 
+-- the variables of a triple's procedure, and the procedure
+abbrev pub vars_of : TypedProgram → Triple → Option (List VarEntry)
+vars_of program t = option_map (λ (e : ProcEntry). e.vars) (slice_get program.procs t.proc)
+
+abbrev pub proc_of : TypedProgram → Triple → Option TypedProc
+proc_of program t = option_map (λ (e : ProcEntry). e.proc) (slice_get program.procs t.proc)
+
 module _ (limit : ℕ) (program : TypedProgram) (k : ℕ) (t : Triple) (own : FitsProgram program t) (types : List TypeEntry) (same : types ≡ program.types)
     (vars : List VarEntry) (vars-at : Some vars ≡ option_map (λ (e : ProcEntry). e.vars) (slice_get program.procs t.proc))
     (proc : TypedProc) (proc-at : Some proc ≡ option_map (λ (e : ProcEntry). e.proc) (slice_get program.procs t.proc))

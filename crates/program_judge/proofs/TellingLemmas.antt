@@ -1,5 +1,5 @@
 -- What is told of a triple, by the tables and the procedure that a call finds for it.
-use Rattle.std.proofs.Common.{◌≡◌, ◌∙◌, ◌<◌, ◌++◌, ℕ, List, [], Option, Some, option_map, slice_get, ap, ap₂, subst, sym}
+use Rattle.std.proofs.Common.{◌≡◌, ◌∙◌, ◌<◌, ◌++◌, ℕ, List, [], Some, option_map, slice_get, ap, ap₂, subst, sym}
 use Rattle.store_core.specs.Tables.{TypeEntry, VarEntry}
 use Rattle.store_core.specs.Stores.{StoreMap}
 use Rattle.store_text.specs.StoreText.{store_text_of}

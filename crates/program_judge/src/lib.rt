@@ -11,8 +11,8 @@ mod asking;
 mod fields;
 pub mod laws;
 mod lines;
+mod meet_counts;
 pub mod meet_laws;
-mod meet_totals;
 mod meet_way;
 mod meets;
 mod pointers;
@@ -21,7 +21,7 @@ mod triples;
 mod ways;
 
 pub use fields::field_report;
-pub use meet_totals::meet_totals;
+pub use meet_counts::meet_totals;
 pub use meet_way::MeetWay;
 pub use meets::meet_report;
 pub use pointers::pointer_fields;

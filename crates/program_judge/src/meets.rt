@@ -80,7 +80,7 @@ fn report_of(
             push_empty(alloc, &mut text, number, name, asked.line)?;
             Ok((text, MeetWay::Empty))
         }
-        Judged::Invalid(store, _, _) => {
+        Judged::Invalid(store, _cause, _at) => {
             let told = store_text(alloc, types, vars, &store)?;
             push_met(alloc, &mut text, number, name, asked.line)?;
             text.extend_from_slice(told.as_slice())?;

@@ -1,4 +1,4 @@
-use Rattle.std.proofs.Common.{◌≡◌, ◌∙◌, List, Ok, ap, subst, sym, option_map}
+use Rattle.std.proofs.Common.{◌∙◌, List, Ok, ap, subst, sym, option_map}
 use Rattle.bdd_nodes.specs.Shelf.{limit_of}
 use Rattle.store_core.specs.Tables.{TypeEntry}
 use Rattle.witness_store.specs.Alike.{AreFunctional}
