@@ -1,5 +1,5 @@
 -- What is kept on the way.
-use Rattle.std.proofs.Common.{◌≡◌, ◌≢◌, ℕ, suc, zero, ◌+◌, ◌<◌, ◌≤◌, Bool, true, false, cond, List, [], ◌∷◌, ◌++◌, length, get_or, Option, Some, None}
+use Rattle.std.proofs.Common.{◌≡◌, ℕ, suc, zero, ◌<◌, ◌≤◌, true, false, List, [], ◌∷◌, ◌++◌, length, Option, Some, None}
 use Rattle.std.proofs.Common.{◌⊎◌, inl, inr}
 use Rattle.std.proofs.Common.{if◌then◌else◌, sym, ◌∙◌, ap, refl, subst, arith, length-append, append_assoc, append-nil, slice_get}
 use Rattle.std.specs.Prelude.{MatchOption, Contains}
@@ -11,20 +11,18 @@ use Rattle.labels.specs.Labels.{Label, Function, with_track}
 use Rattle.bdd_nodes.specs.declared.node_ref.NodeRef.{NodeRef}
 use Rattle.bdd_nodes.specs.Nodes.{node_of}
 use Rattle.bdd_nodes.specs.Shelf.{Contents, IsShelf, IsValid, IsLeaf, Splits, state_of, top_of, low_of, high_of, rank_of}
-use Rattle.bdd_nodes.specs.Changes.{Reaches, itself, by_low, by_high}
+use Rattle.bdd_nodes.specs.Changes.{itself, by_low, by_high}
 use Rattle.bdd_nodes.proofs.CanonicalLemmas.{differ_named, changes_named}
 use Rattle.bdd_nodes.proofs.RefLemmas.{node_of-injective}
 use Rattle.bdd_nodes.proofs.UnderLemmas.{IsUnder-reached}
 use Rattle.bdd_list.specs.declared.listing.Listed.{Listed}
 use Rattle.bdd_list.specs.declared.listing.Listed.TheVariants.{Leaf, Inner}
 use Rattle.bdd_list.specs.declared.listing.ListedNode.{ListedNode}
-use Rattle.bdd_list.specs.declared.listing.Listing.{Listing}
 use Rattle.bdd_list.specs.declared.walk.Frame.{Frame}
 use Rattle.bdd_list.specs.declared.walk.Frame.TheVariants.{Low, High}
-use Rattle.bdd_list.specs.declared.walk.Turn.{Turn}
 use Rattle.bdd_list.specs.declared.walk.Turn.TheVariants.{Visit, Done}
-use Rattle.bdd_list.specs.Listing.{rank, node_at, first_track, function_in, IsIn, IsSide, AsksNoneBelow, AreOrdered, DifferSomewhere, IsUnderRoot, IsListing}
-use Rattle.bdd_list.specs.Waits.{Memo, same_ref, found, Extends, Lists, IsUnderSome, IsFor, IsList, IsDue, AllWait, Work, IsVisited, IsAwaited, Works}
+use Rattle.bdd_list.specs.Listing.{node_at, first_track, function_in, IsIn, IsSide, AreOrdered, DifferSomewhere, IsUnderRoot, IsListing}
+use Rattle.bdd_list.specs.Waits.{Memo, same_ref, found, Extends, Lists, IsUnderSome, IsFor, IsList, IsDue, AllWait, Work, Works}
 use Rattle.bdd_list.proofs.ListingLemmas.{if_same, function_in-leaf, function_in-inner, function_in-append}
 
 -- equal words are equal references
@@ -450,13 +448,3 @@ pub slice_get-total : {X : Type 0} (xs : List X) (k : ℕ) → k < length xs →
 slice_get-total [] k inside = absurd (omega arith)
 slice_get-total (x ∷ xs) zero inside = (x, refl)
 slice_get-total (x ∷ xs) (suc k) inside = slice_get-total xs k (omega arith)
-
--- the same walk
-pub Works-same : (work : Work) (nodes nodes' : List ListedNode) (memo memo' : Memo) (stack stack' : List Frame) (turn turn' : Turn) →
-    nodes ≡ nodes' → memo ≡ memo' → stack ≡ stack' → turn ≡ turn' →
-    Works work nodes memo stack turn → Works work nodes' memo' stack' turn'
-Works-same work nodes nodes' memo memo' stack stack' turn turn' same_nodes same_memo same_stack same_turn works =
-    subst (λ (t : Turn). Works work nodes' memo' stack' t) same_turn
-    (subst (λ (s : List Frame). Works work nodes' memo' s turn) same_stack
-    (subst (λ (m : Memo). Works work nodes' m stack turn) same_memo
-    (subst (λ (n : List ListedNode). Works work n memo stack turn) same_nodes works)))

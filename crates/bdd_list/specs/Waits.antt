@@ -1,11 +1,11 @@
 -- What is kept on the way: the nodes that wait for their sides, and those that are listed.
-use Rattle.std.specs.Prelude.{◌≡◌, ℕ, ◌<◌, Bool, List, [], ◌∷◌, ◌++◌, length, Option, Some, None, Contains, nat_eq}
+use Rattle.std.specs.Prelude.{◌≡◌, ℕ, ◌+◌, ◌*◌, ◌^◌, ◌<◌, Bool, List, [], ◌∷◌, ◌++◌, length, Option, Some, None, Contains, nat_eq}
 use Rattle.std.specs.declared.hash.FoldHasher.{FoldHasher}
 use Rattle.std.specs.declared.hash.BuildHasherDefault.{BuildHasherDefault}
 use Rattle.std.specs.HashMap.{get, HashMap}
 use Rattle.labels.specs.Labels.{Label}
 use Rattle.bdd_nodes.specs.declared.node_ref.NodeRef.{NodeRef}
-use Rattle.bdd_nodes.specs.Shelf.{Contents, IsShelf, IsValid, Splits, state_of, top_of, low_of, high_of}
+use Rattle.bdd_nodes.specs.Shelf.{Contents, IsShelf, IsValid, Splits, state_of, top_of, low_of, high_of, rank_of}
 use Rattle.bdd_nodes.specs.Changes.{Reaches}
 use Rattle.bdd_list.specs.declared.listing.Listed.{Listed}
 use Rattle.bdd_list.specs.declared.listing.Listed.TheVariants.{Inner}
@@ -104,3 +104,22 @@ pub record Works (work : Work) (nodes : List ListedNode) (memo : Memo) (stack : 
   pub list : IsList work.shelf work.roots nodes memo
   pub extends : Extends work.before nodes
   pub underway : IsUnderway work nodes memo stack turn
+
+-- how many turns a reference may take, with room to spare
+abbrev pub visit_cost : NodeRef → ℕ
+visit_cost r = 2 ^ (2 * rank_of r + 2)
+
+-- how many turns are left for a node that waits
+abbrev pub frame_cost : Frame → ℕ
+frame_cost (Low node track high) = visit_cost high + 2
+frame_cost (High node track low) = 1
+
+-- how many are left for all that wait
+abbrev pub stack_cost : List Frame → ℕ
+stack_cost [] = 0
+stack_cost (frame ∷ frames) = frame_cost frame + stack_cost frames
+
+-- how many are left for what is worked on
+abbrev pub turn_cost : Turn → ℕ
+turn_cost (Visit r) = visit_cost r
+turn_cost (Done listed) = 0

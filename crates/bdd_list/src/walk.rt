@@ -1,11 +1,11 @@
 //! Going down from each root to its leaves, and up again: a node is listed after its sides. A stack keeps the nodes that
 //! wait, so that no call goes deep.
 
-ghost use Rattle.std.specs.Prelude.{◌≡◌, ◌<◌, ◌^◌, ◌∷◌, ℕ, List, All, Some, IfOk, length, slice_get, vec_len};
+ghost use Rattle.std.specs.Prelude.{◌≡◌, ◌<◌, ◌+◌, ◌^◌, ◌∷◌, ℕ, List, All, Some, IfOk, length, slice_get, vec_len};
 ghost use Rattle.bdd_nodes.specs.declared.node_ref.NodeRef.{NodeRef};
 ghost use Rattle.bdd_nodes.specs.Shelf.{IsShelf, IsValid};
 ghost use Rattle.bdd_list.specs.Listing.{IsListing};
-ghost use Rattle.bdd_list.specs.Waits.{Work, Works, IsList, Lists, Extends};
+ghost use Rattle.bdd_list.specs.Waits.{Work, Works, IsList, Lists, Extends, visit_cost, stack_cost, turn_cost};
 ghost use Rattle.bdd_list.specs.declared.listing.ListedNode.{ListedNode};
 
 use crate::listing::{Listed, ListedNode, Listing};
@@ -44,9 +44,10 @@ fn visit(
     r: NodeRef,
 ) -> Result<Turn, AllocError>
     requires { IsValid shelf.now r }
-    ensures { (work : Work) (nodes : List ListedNode) → work.shelf ≡ shelf.now
+    ensures works { (work : Work) (nodes : List ListedNode) → work.shelf ≡ shelf.now
         → Works work nodes memo.now stack.old (Turn.Visit r)
         → IfOk result (Works work nodes memo.now stack.new) }
+    ensures cost { IfOk result (λ turn. turn_cost turn + stack_cost stack.new < visit_cost r + stack_cost stack.old) }
 {
     if let Some(state) = r.state() {
         return Ok(Turn::Done(Listed::Leaf(state)));
@@ -83,8 +84,9 @@ fn resume(
     frame: Frame,
     listed: Listed,
 ) -> Result<Turn, AllocError>
-    ensures { (work : Work) → Works work nodes.old.items memo.old (frame ∷ stack.old) (Turn.Done listed)
+    ensures works { (work : Work) → Works work nodes.old.items memo.old (frame ∷ stack.old) (Turn.Done listed)
         → IfOk result (Works work nodes.new.items memo.new stack.new) }
+    ensures cost { IfOk result (λ turn. turn_cost turn + stack_cost stack.new < stack_cost (frame ∷ stack.old)) }
 {
     match frame {
         Frame::Low { node, track, high } => {
@@ -130,7 +132,7 @@ fn list_from(
     let mut stack = Stack::new(alloc);
     let root = roots[index];
     let mut turn = Turn::Visit(root);
-    for _ in 0..u64::MAX {
+    loop {
         turn = match turn {
             Turn::Visit(r) => visit(shelf, memo, &mut stack, r)?,
             Turn::Done(listed) => match stack.pop() {
@@ -139,7 +141,6 @@ fn list_from(
             },
         };
     }
-    Err(AllocError)
 }
 
 /// The inner nodes under the roots, each once, with the sides of a node before it.

@@ -2,3 +2,4 @@ pub mod SweepLemmas
 pub mod ReachLemmas
 pub mod ExploreLemmas
 pub mod NodeLemmas
+pub mod UnsetLemmas

@@ -2,3 +2,4 @@ pub mod Form
 pub mod Reached
 pub mod Sides
 pub mod Exploring
+pub mod Unset

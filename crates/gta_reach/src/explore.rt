@@ -2,7 +2,7 @@
 //! them: what is new waits on a stack, each node is gone down once, and each pair of classes of child states is looked at
 //! once. What is found here is generated. That nothing is missing is for the rounds to say.
 
-ghost use Rattle.std.specs.Prelude.{◌≡◌, ◌<◌, ℕ, All, IfOk, Some, false, true, length, replicate, slice_get, slice_index, slice_set, vec_len};
+ghost use Rattle.std.specs.Prelude.{◌≡◌, ◌+◌, ◌<◌, ◌≤◌, ℕ, All, IfOk, Some, false, true, length, replicate, slice_get, slice_index, slice_set, vec_len};
 ghost use Rattle.bdd_list.specs.declared.listing.Listed.TheVariants.{Inner};
 ghost use Rattle.gta_reach.specs.declared.form.Form.{Form};
 ghost use Rattle.gta_reach.specs.declared.sides.Side.TheVariants.{Left, Right};
@@ -12,6 +12,7 @@ ghost use Rattle.gta_reach.specs.Sides.{opposite};
 ghost use Rattle.gta_classes.specs.Lists.{list_at};
 ghost use Rattle.gta_reach.specs.Exploring.{with_mark, AreClear, IsGeneratedIn, IsGeneratedAt, GivesGenerated, IsWaiting};
 ghost use Rattle.gta_reach.specs.Exploring.{AreMet, KeepsNone, AllKeepNone, AreKept, AreSpaces};
+ghost use Rattle.gta_reach.specs.Unset.{one_if, unset, unset_in, left_of};
 
 use crate::form::{Form, FormSpace};
 use crate::sides::{Side, above, child, kinds_of, listed_of};
@@ -52,6 +53,7 @@ pub(crate) struct Kept {
 fn mark_new(marks: &mut Items<bool>, number: u32) -> bool
     ensures marks { marks.new ≡ slice_set marks.old number true }
     ensures unchanged { result ≡ false → marks.new ≡ marks.old }
+    ensures fewer { unset marks.new + one_if result ≤ unset marks.old }
 {
     let mut is_new = false;
     touch_state(marks, &mut is_new, number);
@@ -61,7 +63,8 @@ fn mark_new(marks: &mut Items<bool>, number: u32) -> bool
 /// Marks a number in a space, and says whether it has a mark that wasn't set. Past the last space there is none.
 #[inline]
 fn mark_in(marks: &mut Vec<Items<bool>>, s: usize, number: u32) -> bool
-    ensures { marks.new.items ≡ with_mark marks.old.items s number }
+    ensures marks { marks.new.items ≡ with_mark marks.old.items s number }
+    ensures fewer { unset_in marks.new.items + one_if result ≤ unset_in marks.old.items }
 {
     if s >= marks.len() {
         return false;
@@ -72,7 +75,8 @@ fn mark_in(marks: &mut Vec<Items<bool>>, s: usize, number: u32) -> bool
 /// What is listed in a space is met. Says whether it is new.
 #[inline]
 fn mark_listed(met: &mut Met, s: usize, listed: Listed) -> bool
-    ensures { (form : Form) → AreMet form met.old → GivesGenerated form s listed → AreMet form met.new }
+    ensures met { (form : Form) → AreMet form met.old → GivesGenerated form s listed → AreMet form met.new }
+    ensures fewer { left_of met.new + one_if result ≤ left_of met.old }
 {
     match listed {
         Listed::Leaf(state) => mark_in(&mut met.states, s, state),
@@ -82,7 +86,8 @@ fn mark_listed(met: &mut Met, s: usize, listed: Listed) -> bool
 
 /// What is listed in a space is met. If it is new, it waits.
 fn meet(met: &mut Met, s: usize, listed: Listed) -> Result<(), AllocError>
-    ensures { IfOk result (λ done. (form : Form) → AreMet form met.old → GivesGenerated form s listed → AreMet form met.new) }
+    ensures met { IfOk result (λ done. (form : Form) → AreMet form met.old → GivesGenerated form s listed → AreMet form met.new) }
+    ensures left { IfOk result (λ done. left_of met.new ≤ left_of met.old) }
 {
     if !mark_listed(met, s, listed) {
         return Ok(());
@@ -96,7 +101,8 @@ fn meet_sides(form: &Form, s: usize, index: u32, met: &mut Met) -> Result<(), Al
     requires form { IsForm form.now }
     requires node { GivesGenerated form.now s (Inner index) }
     requires met { AreMet form.now met.old }
-    ensures { IfOk result (λ done. AreMet form.now met.new) }
+    ensures met { IfOk result (λ done. AreMet form.now met.new) }
+    ensures left { IfOk result (λ done. left_of met.new ≤ left_of met.old) }
 {
     let node = form.space(s).node(index);
     meet(met, s, node.low)?;
@@ -118,7 +124,8 @@ fn meet_each(
     requires state { IsGeneratedAt form.now parent side state }
     requires beside { All (IsGeneratedAt form.now parent (opposite side)) beside.now }
     requires met { AreMet form.now met.old }
-    ensures { IfOk result (λ done. AreMet form.now met.new) }
+    ensures met { IfOk result (λ done. AreMet form.now met.new) }
+    ensures left { IfOk result (λ done. left_of met.new ≤ left_of met.old) }
 {
     let space = form.space(parent);
     for other in beside {
@@ -154,6 +161,7 @@ fn pair(
     requires met { AreMet form.now met.old }
     ensures own { IfOk result (λ done. All (IsGeneratedAt form.now parent side) own.new.states) }
     ensures met { IfOk result (λ done. AreMet form.now met.new) }
+    ensures left { IfOk result (λ done. left_of met.new ≤ left_of met.old) }
 {
     let kind = number_at(kinds_of(form.space(parent), side), state);
     if !mark_new(&mut own.kinds, kind) {
@@ -192,6 +200,7 @@ fn pair_at(
     requires met { AreMet form.now met.old }
     ensures own { IfOk result (λ done. AreKept form.now side own.new.items) }
     ensures met { IfOk result (λ done. AreMet form.now met.new) }
+    ensures left { IfOk result (λ done. left_of met.new ≤ left_of met.old) }
 {
     if child(form.space(parent), side) as usize != s {
         return Ok(());
@@ -220,6 +229,7 @@ fn pair_all(
     ensures lefts { IfOk result (λ done. AreKept form.now Left lefts.new.items) }
     ensures rights { IfOk result (λ done. AreKept form.now Right rights.new.items) }
     ensures met { IfOk result (λ done. AreMet form.now met.new) }
+    ensures left { IfOk result (λ done. left_of met.new ≤ left_of met.old) }
 {
     for parent in parents {
         let parent = *parent as usize;
@@ -247,6 +257,7 @@ fn look(
     ensures lefts { IfOk result (λ done. AreKept form.now Left lefts.new.items) }
     ensures rights { IfOk result (λ done. AreKept form.now Right rights.new.items) }
     ensures met { IfOk result (λ done. AreMet form.now met.new) }
+    ensures left { IfOk result (λ done. left_of met.new ≤ left_of met.old) }
 {
     match next.listed {
         Listed::Leaf(state) => {
@@ -350,11 +361,10 @@ pub(crate) fn explore(
     };
     let mut lefts = keep_none_each(alloc, form, Side::Left)?;
     let mut rights = keep_none_each(alloc, form, Side::Right)?;
-    for _ in 0..u64::MAX {
+    loop {
         let Some(next) = met.waiting.pop() else {
             return Ok(met.states);
         };
         look(form, &parents, next, &mut lefts, &mut rights, &mut met)?;
     }
-    Err(AllocError)
 }

@@ -1,8 +1,9 @@
 //! The reached states: the initial ones, and what steps of reached ones give.
 
-ghost use Rattle.std.specs.Prelude.{◌≡◌, ◌<◌, ◌^◌, ℕ, true, false, length, [], slice_index_or, slice_set, replicate, IfOk};
+ghost use Rattle.std.specs.Prelude.{◌≡◌, ◌+◌, ◌<◌, ◌≤◌, ◌^◌, ℕ, true, false, length, [], slice_index_or, slice_set, replicate, IfOk};
 ghost use Rattle.gta_reach.specs.Form.{IsForm};
 ghost use Rattle.gta_reach.specs.Reached.{AreGenerated, AreReached, IsClosedIn};
+ghost use Rattle.gta_reach.specs.Unset.{one_if, unset_in};
 
 use crate::explore::explore;
 use crate::form::Form;
@@ -54,6 +55,7 @@ fn reach_in(
     ensures generated { IfOk result (λ more. AreGenerated form.now reached.new.items) }
     ensures unchanged { IfOk result (λ more. more ≡ false → reached.new.items ≡ reached.old.items) }
     ensures closed { IfOk result (λ more. more ≡ false → IsClosedIn form.now reached.new.items s) }
+    ensures fewer { IfOk result (λ more. unset_in reached.new.items + one_if more ≤ unset_in reached.old.items) }
 {
     let space = &form.spaces.as_slice()[s];
     let lefts = choose(
@@ -81,6 +83,7 @@ fn reach_more(
     ensures generated { IfOk result (λ more. AreGenerated form.now reached.new.items) }
     ensures closed { IfOk result (λ more. more ≡ false → (s : ℕ) → s < length form.now.spaces
         → IsClosedIn form.now reached.new.items s) }
+    ensures fewer { IfOk result (λ more. unset_in reached.new.items + one_if more ≤ unset_in reached.old.items) }
 {
     let mut is_more = false;
     for s in 0..form.spaces.len() {
@@ -97,10 +100,9 @@ pub fn reach(alloc: Global, form: &Form) -> Result<Vec<Items<bool>>, AllocError>
     ensures { IfOk result (λ reached. AreReached form.now reached.items) }
 {
     let mut reached = explore(alloc, form, initial_states(alloc, form)?)?;
-    for _ in 0..u64::MAX {
+    loop {
         if !reach_more(alloc, form, &mut reached)? {
             return Ok(reached);
         }
     }
-    Err(AllocError)
 }

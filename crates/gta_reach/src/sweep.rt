@@ -1,11 +1,12 @@
 //! What steps of some states give in a space.
 
-ghost use Rattle.std.specs.Prelude.{◌≡◌, ◌<◌, ℕ, Bool, List, false, true, length, slice_set, IfOk, vec_len};
+ghost use Rattle.std.specs.Prelude.{◌≡◌, ◌+◌, ◌<◌, ◌≤◌, ℕ, Bool, List, false, true, length, slice_set, IfOk, vec_len};
 ghost use Rattle.labels.specs.Labels.{Label};
 ghost use Rattle.bdd_list.specs.Listing.{AreOrdered};
 ghost use Rattle.gta_reach.specs.Form.{step_in, root_in, cell_in};
 ghost use Rattle.gta_classes.specs.Chosen.{IsAmong};
 ghost use Rattle.gta_reach.specs.Reached.{with_node, with_state, HasRoot, IsSwept, Sweeps, Grown, IsTouched, AreSidesTouched};
+ghost use Rattle.gta_reach.specs.Unset.{one_if, unset};
 
 use crate::form::FormSpace;
 use bdd_list::Listed;
@@ -19,6 +20,7 @@ fn touch(nodes: &mut Vec<bool>, states: &mut Items<bool>, is_more: &mut bool, li
     ensures nodes { nodes.new.items ≡ with_node nodes.old.items listed }
     ensures states { states.new ≡ with_state states.old listed }
     ensures unchanged { is_more.new ≡ false → (is_more.old ≡ false) × (states.new ≡ states.old) }
+    ensures fewer { unset states.new + one_if is_more.new ≤ unset states.old + one_if is_more.old }
 {
     match listed {
         Listed::Leaf(state) => touch_state(states, is_more, state),
@@ -31,6 +33,7 @@ fn touch(nodes: &mut Vec<bool>, states: &mut Items<bool>, is_more: &mut bool, li
 pub(crate) fn touch_state(states: &mut Items<bool>, is_more: &mut bool, state: u32)
     ensures states { states.new ≡ slice_set states.old state true }
     ensures unchanged { is_more.new ≡ false → (is_more.old ≡ false) × (states.new ≡ states.old) }
+    ensures fewer { unset states.new + one_if is_more.new ≤ unset states.old + one_if is_more.old }
 {
     if let Some(is_found) = states.get(state as usize).copied() {
         if !is_found {
@@ -56,6 +59,7 @@ fn touch_row(
     ensures grown { Grown nodes.old.items states.old nodes.new.items states.new }
     ensures touched { (r : ℕ) → IsAmong rights.now r
         → IsTouched nodes.new.items states.new (root_in space.now (cell_in space.now left r)) }
+    ensures fewer { unset states.new + one_if is_more.new ≤ unset states.old + one_if is_more.old }
 {
     for right in rights {
         touch(nodes, states, is_more, space.listed(left, *right));
@@ -77,6 +81,7 @@ fn touch_rows(
         → Sweeps space.now lefts.now rights.now before nodes.new.items states.new is_more.new }
     ensures touched { (l r : ℕ) → IsAmong lefts.now l → IsAmong rights.now r
         → IsTouched nodes.new.items states.new (root_in space.now (cell_in space.now l r)) }
+    ensures fewer { unset states.new + one_if is_more.new ≤ unset states.old + one_if is_more.old }
 {
     for left in lefts {
         touch_row(space, *left, rights, nodes, states, is_more);
@@ -97,6 +102,7 @@ fn touch_sides(
         → Sweeps space.now lefts rights before nodes.new.items states.new is_more.new }
     ensures grown { Grown nodes.old.items states.old nodes.new.items states.new }
     ensures sides { AreSidesTouched space.now nodes.new.items states.new 0 }
+    ensures fewer { unset states.new + one_if is_more.new ≤ unset states.old + one_if is_more.old }
 {
     for index in (0..nodes.len()).rev() {
         if nodes[index] {
@@ -121,6 +127,7 @@ pub(crate) fn sweep(
         → step_in space.now l r label < length states.old }
     ensures swept { IfOk result (λ more. IsSwept space.now lefts.now rights.now states.old states.new) }
     ensures unchanged { IfOk result (λ more. more ≡ false → states.new ≡ states.old) }
+    ensures fewer { IfOk result (λ more. unset states.new + one_if more ≤ unset states.old) }
 {
     let mut nodes = vec![in alloc; false; space.listing.nodes.len()]?;
     let mut is_more = false;

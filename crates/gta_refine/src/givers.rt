@@ -91,14 +91,13 @@ fn climb(
     ensures clear { IfOk result (λ list. IsClear found.new.items) }
 {
     let mut list = leaves(alloc, states)?;
-    for at in 0..usize::MAX {
-        if at >= list.len() {
-            unmark_nodes(found, &list);
-            return Ok(list);
-        }
+    let mut at = 0;
+    while at < list.len() {
         add_nodes(parents.of(list[at]), found, &mut list)?;
+        at += 1;
     }
-    Err(AllocError)
+    unmark_nodes(found, &list);
+    Ok(list)
 }
 
 /// The numbers of what has what is listed.

@@ -49,7 +49,7 @@ module _ (g : Spaces) (A : Automaton ℕ) (t : ℕ) where
   pub AreSettled-none : AreSettled g A t []
   AreSettled-none = record { each = λ s states is q there. absurd (let e : ◌≡◌ {A = Option (List ℕ)} None (Some states) = is in cc) }
 
-  settled-at : (sets : List (List ℕ)) → AreSettled g A t sets → (s q : ℕ) → Contains (set_at sets s) q → Settled g A t s q
+  pub settled-at : (sets : List (List ℕ)) → AreSettled g A t sets → (s q : ℕ) → Contains (set_at sets s) q → Settled g A t s q
   settled-at sets are s q there = pick (slice_get sets s) refl there
     where
       pick : (o : Option (List ℕ)) → slice_get sets s ≡ o → Contains (unwrap_or o []) q → Settled g A t s q

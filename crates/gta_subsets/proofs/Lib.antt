@@ -4,3 +4,4 @@ pub mod ShortsLemmas
 pub mod RootsLemmas
 pub mod SubsetsLemmas
 pub mod ClosingLemmas
+pub mod RisingLemmas

@@ -1,6 +1,6 @@
 //! The initial sets: in each space the states that labels with at most the dropped track give.
 
-ghost use Rattle.std.specs.Prelude.{◌≡◌, ◌<◌, ◌++◌, ℕ, [], ◌∷◌, length, map, Contains, IsSome, IfOk, OnOk, IsTrue, All};
+ghost use Rattle.std.specs.Prelude.{◌≡◌, ◌≢◌, ◌<◌, ◌++◌, ℕ, [], ◌∷◌, length, map, Contains, IsSome, IfOk, OnOk, IsTrue, IsFalse, All};
 ghost use Rattle.labels.specs.Labels.{empty_label, with_track};
 ghost use Rattle.bdd_nodes.specs.Shelf.{IsValid, state_of, label_of};
 ghost use Rattle.bdd_walk.specs.Asked.{leaves_of};
@@ -16,7 +16,7 @@ use bdd_nodes::{Label, NodeRef, Shelf};
 use bdd_walk::{NoMemory, StateList, set_of};
 use gta_core::Auto;
 use plain_data::Items;
-use std::alloc::{AllocError, Global};
+use std::alloc::Global;
 use ws2s_core::Guide;
 
 /// The initial set of each space, which grow from empty sets until they are the same once more.
@@ -33,34 +33,19 @@ pub fn initial_sets(
     ensures { IfOk result (AreInitial g.now (automaton_of shelf.now a.now) track) }
 {
     let mut sets = Items::new(alloc);
-    let mut many = 0;
     loop {
         let next = next_sets(alloc, g, a, table, track, shelf, sets.as_slice())?;
         if are_same(next.as_slice(), sets.as_slice()) {
             return Ok(next);
         }
-        // Each set has what it had before, and one of them more: so there is no other way on.
-        let more = states_in(next.as_slice());
-        if more <= many {
-            return Err(AllocError);
-        }
-        many = more;
         sets = next;
     }
 }
 
-/// How many states the sets have together.
-fn states_in(sets: &[StateList]) -> u64 {
-    let mut many: u64 = 0;
-    for set in sets {
-        many = many.saturating_add(set.len() as u64);
-    }
-    many
-}
-
 /// Whether all sets are the same.
 fn are_same(one: &[StateList], other: &[StateList]) -> bool
-    ensures { IsTrue result → one.now ≡ other.now }
+    ensures same { IsTrue result → one.now ≡ other.now }
+    ensures apart { IsFalse result → one.now ≢ other.now }
 {
     if one.len() != other.len() {
         return false;
@@ -75,7 +60,8 @@ fn are_same(one: &[StateList], other: &[StateList]) -> bool
 
 /// Whether the two sets are the same.
 fn is_same(one: &[u32], other: &[u32]) -> bool
-    ensures { IsTrue result → one.now ≡ other.now }
+    ensures same { IsTrue result → one.now ≡ other.now }
+    ensures apart { IsFalse result → one.now ≢ other.now }
 {
     one == other
 }

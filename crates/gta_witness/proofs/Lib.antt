@@ -9,3 +9,5 @@ pub mod LowerLemmas
 pub mod LargeLemmas
 pub mod SameLemmas
 pub mod GrowLemmas
+pub mod EndingLemmas
+pub mod ListsLemmas

@@ -76,7 +76,7 @@ module _ (form : Form) (weighs : ℕ → Bool) (lines : Lines) (old mid : Search
   was-unsettled : (w : Weight) → IsSettled (found_by old) goal w → ⊥
   was-unsettled w settled = false≢true (sym taken.unsettled ∙ (settled-entry (found_by old) goal w entry settled taken.there).0)
 
-  settled-kept : (g : Goal) (w : Weight) → IsSettled (found_by old) g w → IsSettled (found_by mid) g w
+  pub settled-kept : (g : Goal) (w : Weight) → IsSettled (found_by old) g w → IsSettled (found_by mid) g w
   settled-kept g w settled = elim (same-or goal g) [
     | inl same ↦ absurd (was-unsettled w (subst (λ (x : Goal). IsSettled (found_by old) x w) (sym same) settled))
     | inr apart ↦ record { entry = settled.entry; there = at-other g apart ∙ settled.there; settled = settled.settled; weighs = settled.weighs }

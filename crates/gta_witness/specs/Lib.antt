@@ -6,3 +6,5 @@ pub mod Searching
 pub mod Following
 pub mod Reading
 pub mod Growing
+pub mod Lists
+pub mod Ending

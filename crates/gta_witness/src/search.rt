@@ -1,9 +1,12 @@
 //! Least weights, from the lowest up.
 
-ghost use Rattle.std.specs.Prelude.{◌≡◌, ℕ, true, IfOk, Some, Contains};
+ghost use Rattle.std.specs.Prelude.{◌≡◌, ◌<◌, ℕ, true, IfOk, Some, Contains, vec_len};
 ghost use Rattle.std.specs.HashMap.{Updates};
+ghost use Rattle.gta_reach.specs.declared.form.Form.{Form};
 ghost use Rattle.gta_reach.specs.Form.{automaton_of};
 ghost use Rattle.gta_witness.specs.Searching.{same_goal, weighs_in, found_by, list_at, Ends, Stands, Running, IsStart, IsTaken, AddsTo, AddsLine, AcceptsAt};
+ghost use Rattle.gta_witness.specs.Lists.{AreLines, HasLine};
+ghost use Rattle.gta_witness.specs.Ending.{turns_left, IsNearer, HasBits};
 
 use crate::expand::{Lines, expand};
 use crate::goal::{Found, Goal, Reason, Weight};
@@ -44,7 +47,9 @@ fn start(alloc: Global, form: &Form, weighed: &HashSet<u32>) -> Result<Search, A
 }
 
 /// An empty list for each space.
-fn empty_lists(alloc: Global, many: usize) -> Result<Vec<Items<u32>>, AllocError> {
+fn empty_lists(alloc: Global, many: usize) -> Result<Vec<Items<u32>>, AllocError>
+    ensures { IfOk result (λ lists. vec_len lists ≡ many) }
+{
     let mut lists = Vec::with_capacity(alloc, many)?;
     for _ in 0..many {
         lists.push(Items::new(alloc))?;
@@ -71,19 +76,20 @@ fn settle(search: &mut Search, goal: Goal, found: Found) -> Result<(), AllocErro
 
 /// Puts a class into the list of its space.
 fn add(lists: &mut Vec<Items<u32>>, space: u32, class: u32) -> Result<(), AllocError>
-    ensures { IfOk result (λ done. AddsTo lists.old.items lists.new.items space class) }
+    requires { space < vec_len lists.old }
+    ensures adds { IfOk result (λ done. AddsTo lists.old.items lists.new.items space class) }
+    ensures many { IfOk result (λ done. vec_len lists.new ≡ vec_len lists.old) }
 {
-    let place = space as usize;
-    if place >= lists.len() {
-        return Err(AllocError);
-    }
-    lists[place].push(class)?;
+    lists[space as usize].push(class)?;
     Ok(())
 }
 
 /// Puts a settled class into its list.
 fn add_line(lines: &mut Lines, goal: Goal) -> Result<(), AllocError>
-    ensures { IfOk result (λ done. AddsLine lines.old lines.new goal) }
+    requires { HasLine lines.old goal }
+    ensures adds { IfOk result (λ done. AddsLine lines.old lines.new goal) }
+    ensures lines { IfOk result (λ done. (form : Form) → AreLines form lines.old → AreLines form lines.new) }
+    ensures bits { IfOk result (λ done. HasBits goal) }
 {
     match goal {
         Goal::Row { space, class } => {
@@ -133,8 +139,11 @@ fn settle_goal(
     goal: Goal,
     found: Found,
 ) -> Result<Turn, AllocError>
-    requires { IsTaken form.now (weighs_in weighed.now) lines.old search.old goal found }
-    ensures { IfOk result (Stands form.now (weighs_in weighed.now) lines.new search.new) }
+    requires taken { IsTaken form.now (weighs_in weighed.now) lines.old search.old goal found }
+    requires lines { AreLines form.now lines.old }
+    ensures stands { IfOk result (Stands form.now (weighs_in weighed.now) lines.new search.new) }
+    ensures lines { IfOk result (λ turn. AreLines form.now lines.new) }
+    ensures fewer { IfOk result (λ turn. turns_left search.new < turns_left search.old) }
 {
     settle(search, goal, found)?;
     add_line(lines, goal)?;
@@ -155,8 +164,11 @@ fn advance(
     lines: &mut Lines,
     search: &mut Search,
 ) -> Result<Turn, AllocError>
-    requires { (now : ℕ) × Running form.now (weighs_in weighed.now) now lines.old search.old }
-    ensures { IfOk result (Stands form.now (weighs_in weighed.now) lines.new search.new) }
+    requires running { (now : ℕ) × Running form.now (weighs_in weighed.now) now lines.old search.old }
+    requires lines { AreLines form.now lines.old }
+    ensures stands { IfOk result (Stands form.now (weighs_in weighed.now) lines.new search.new) }
+    ensures lines { IfOk result (λ turn. AreLines form.now lines.new) }
+    ensures nearer { IfOk result (IsNearer (turns_left search.old) (turns_left search.new)) }
 {
     let Some(first) = search.queue.pop() else {
         return Ok(Turn::Over);
@@ -193,7 +205,7 @@ pub(crate) fn search_all(
         rows: empty_lists(alloc, form.spaces.len())?,
         columns: empty_lists(alloc, form.spaces.len())?,
     };
-    for _ in 0..u64::MAX {
+    loop {
         match advance(form, weighed, &mut lines, &mut search)? {
             Turn::More => {}
             Turn::Over => {
@@ -210,5 +222,4 @@ pub(crate) fn search_all(
             }
         }
     }
-    Err(AllocError)
 }

@@ -1,6 +1,6 @@
 //! Calls.
 
-ghost use Rattle.std.specs.Prelude.{◌≡◌, None, map, IfOk, IfErr, OnOk, Some};
+ghost use Rattle.std.specs.Prelude.{◌≡◌, None, map, IfOk, IfErr, OnOk};
 ghost use Rattle.std.specs.Option.{option_copied};
 ghost use Rattle.pale_tables.specs.Faults.{Fault, IsStop};
 ghost use Rattle.pale_calls.specs.Calls.{actual_of, callee_named, has_counts, handed_fault, call_fault, call_of};
@@ -76,25 +76,30 @@ fn read_handed(
     Ok(Handed { args, logics })
 }
 
-/// The procedure of this name.
-fn find_callee<'a>(procedures: &'a Procedures, name: &Name) -> Option<&'a Signature>
-    ensures { option_copied result ≡ callee_named procedures.now name.now.bytes }
+/// The number of the procedure of this name, and what it declares.
+fn find_callee<'a>(
+    procedures: &'a Procedures,
+    name: &Name,
+) -> (Option<usize>, Option<&'a Signature>)
+    ensures number { result.0 ≡ number_of procedures.now name.now.bytes }
+    ensures callee { option_copied result.1 ≡ callee_named procedures.now name.now.bytes }
 {
-    let number = procedures.find(name.bytes.as_slice())?;
-    procedures.signature(number)
+    let number = procedures.find(name.bytes.as_slice());
+    let callee = match number {
+        Some(number) => procedures.signature(number),
+        None => None,
+    };
+    (number, callee)
 }
 
 /// The number of a procedure, as 32 bits hold it.
-fn read_number(procedures: &Procedures, name: &Name) -> Result<u32, TextStop>
-    ensures number { IfOk result (λ number. number_of procedures.now name.now.bytes ≡ Some number) }
+fn narrow(number: usize) -> Result<u32, TextStop>
+    ensures value { IfOk result (λ narrow. narrow ≡ number) }
     ensures memory { IfErr result (λ stop. (fault : Fault) → IsStop fault stop) }
 {
-    match procedures.find(name.bytes.as_slice()) {
-        None => Err(TextStop::NoMemory),
-        Some(number) => match u32::try_from(number) {
-            Ok(number) => Ok(number),
-            Err(_) => Err(TextStop::NoMemory),
-        },
+    match u32::try_from(number) {
+        Ok(number) => Ok(number),
+        Err(_) => Err(TextStop::NoMemory),
     }
 }
 
@@ -117,15 +122,15 @@ pub fn read_call(
     ensures head { IfOk result (λ head. head ≡ call_of procedures.now vars.now call.now) }
     ensures stop { IfErr result (IsStop (call_fault procedures.now vars.now call.now)) }
 {
-    let found = find_callee(procedures, &call.callee);
+    let (number, found) = find_callee(procedures, &call.callee);
     let results = read_results(alloc, vars, found, call.results.as_slice())?;
-    let Some(callee) = found else {
+    let (Some(number), Some(callee)) = (number, found) else {
         return Err(TextStop::Refused(Refusal::at(call.callee.place, RefusalKind::Unknown)));
     };
     let handed = read_handed(alloc, vars, callee, call)?;
-    let number = read_number(procedures, &call.callee)?;
+    let callee = narrow(number)?;
     Ok(CallHead {
-        callee: number,
+        callee,
         results,
         args: handed.args,
         logics: handed.logics,

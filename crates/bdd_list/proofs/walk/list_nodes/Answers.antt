@@ -1,17 +1,15 @@
 -- One root after the other.
-use Rattle.std.proofs.Common.{◌≡◌, ℕ, suc, ◌+◌, ◌-◌, ◌<◌, ◌≤◌, List, [], ◌∷◌, ◌++◌, length, Some, None, Option, inl, inr, refl, sym, ◌∙◌, ap, subst}
+use Rattle.std.proofs.Common.{◌≡◌, List, [], ◌∷◌, ◌++◌, length, inl, inr, sym, ◌∙◌, ap, subst}
 use Rattle.std.proofs.Common.{arith, length-append}
-use Rattle.std.specs.Prelude.{slice_get, Contains}
-use Rattle.std.specs.Map.{lookup}
-use Rattle.std.proofs.lemmas.Option.{slice_get_within, slice_get-get_or}
+use Rattle.std.specs.Prelude.{slice_get}
+use Rattle.std.proofs.lemmas.Option.{slice_get_within}
 use Rattle.std.proofs.lemmas.List.Elements.{All-contains}
-use Rattle.bdd_nodes.specs.declared.node_ref.NodeRef.{NodeRef}
 use Rattle.bdd_nodes.specs.Shelf.{IsValid}
 use Rattle.bdd_list.specs.declared.listing.Listed.{Listed}
 use Rattle.bdd_list.specs.declared.listing.ListedNode.{ListedNode}
 use Rattle.bdd_list.specs.Listing.{IsListing}
-use Rattle.bdd_list.specs.Waits.{IsList, Lists, same_ref}
-use Rattle.bdd_list.proofs.WaitsLemmas.{Lists-extends, IsList-none, IsListing-whole, push-cases, slice_get-total}
+use Rattle.bdd_list.specs.Waits.{Lists}
+use Rattle.bdd_list.proofs.WaitsLemmas.{Lists-extends, IsListing-whole, push-cases, slice_get-total}
 use Rattle.bdd_list.proofs.walk.list_nodes.Goals as goal
 
 pub loop-index-preserved : goal.loop-index-preserved

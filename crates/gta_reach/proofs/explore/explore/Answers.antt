@@ -9,8 +9,8 @@ use Rattle.gta_reach.specs.Exploring.{IsWaiting}
 use Rattle.gta_reach.proofs.ExploreLemmas.{AreKept-none}
 use Rattle.gta_reach.proofs.explore.explore.Goals as goal
 
-pub loop-init : goal.loop-init
-loop-init c =
+pub loop-next-init : goal.loop-next-init
+loop-next-init c =
     let form = c.args.form.now in
     record {
       lefts = AreKept-none form Left c.in_ok-lefts.lefts.items
@@ -28,16 +28,16 @@ pub look-requires-clause-next : goal.look-requires-clause-next
 look-requires-clause-next c =
     let form = c.args.form.now in
     All-head (IsWaiting form) c.in-Some.next c.pop.new.self
-    (subst (λ (waiting : List Waiting). All (IsWaiting form) waiting) c.in-Some.ensures c.loop.invariant.met.waiting)
+    (subst (λ (waiting : List Waiting). All (IsWaiting form) waiting) c.in-Some.ensures c.loop-next.invariant.met.waiting)
 
 pub look-requires-clause-met : goal.look-requires-clause-met
 look-requires-clause-met c =
     let form = c.args.form.now in
     record {
-      states = c.loop.invariant.met.states;
+      states = c.loop-next.invariant.met.states;
       waiting = All-tail (IsWaiting form) c.in-Some.next c.pop.new.self
-          (subst (λ (waiting : List Waiting). All (IsWaiting form) waiting) c.in-Some.ensures c.loop.invariant.met.waiting);
+          (subst (λ (waiting : List Waiting). All (IsWaiting form) waiting) c.in-Some.ensures c.loop-next.invariant.met.waiting);
     }
 
 pub returns-in_default : goal.returns-in_default
-returns-in_default c = c.loop.invariant.met.states
+returns-in_default c = c.loop-next.invariant.met.states

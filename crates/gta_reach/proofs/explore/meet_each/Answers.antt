@@ -20,7 +20,10 @@ loop-other-preserved c =
     let beside = c.args.beside.now in
     let i = c.loop-other.other-index in
     let inside : i < length beside = (let t = c.loop-other-test.true in let e = c.loop-other.auto.other-index-end in omega arith) in
-    c.in_ok-meet.ensures form c.loop-other.invariant
-    (subst (λ (listed : Listed). GivesGenerated form c.args.parent listed) (sym c.listed_of.ensures)
-    (GivesGenerated-root form c.args.parent c.space-space.result.now c.space-space.ensures c.requires.form c.args.side c.args.state
-    (slice_index beside i) c.requires.state (c.requires.beside i 0 inside)))
+    record {
+      met = c.in_ok-meet.ensures.met form c.loop-other.invariant.met
+          (subst (λ (listed : Listed). GivesGenerated form c.args.parent listed) (sym c.listed_of.ensures)
+          (GivesGenerated-root form c.args.parent c.space-space.result.now c.space-space.ensures c.requires.form c.args.side c.args.state
+          (slice_index beside i) c.requires.state (c.requires.beside i 0 inside)));
+      left = let l = c.in_ok-meet.ensures.left in let before = c.loop-other.invariant.left in omega arith;
+    }

@@ -12,8 +12,8 @@ space-requires c = space-inside c.args.form.now c.args.s (Inner c.args.index) c.
 pub node-node-requires : goal.node-node-requires
 node-node-requires c = node-inside c.args.form.now c.args.s c.space.result.now c.space.ensures c.requires.form c.args.index c.requires.node
 
-pub returns : goal.returns
-returns c =
+pub returns-clause-met : goal.returns-clause-met
+returns-clause-met c =
     let form = c.args.form.now in
     let s = c.args.s in
     let space = c.space.result.now in
@@ -21,4 +21,4 @@ returns c =
     (GivesGenerated-low form s space c.space.ensures c.requires.form c.args.index c.requires.node) in
     let high : GivesGenerated form s c.node-node.result.high = subst (λ (n : ListedNode). GivesGenerated form s n.high) (sym c.node-node.ensures)
     (GivesGenerated-high form s space c.space.ensures c.requires.form c.args.index c.requires.node) in
-    c.in_ok-meet-2.ensures form (c.in_ok-meet.ensures form c.requires.met low) high
+    c.in_ok-meet-2.ensures.met form (c.in_ok-meet.ensures.met form c.requires.met low) high

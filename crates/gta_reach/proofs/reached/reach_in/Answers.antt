@@ -10,6 +10,8 @@ use Rattle.gta_classes.specs.Chosen.{IsAmong, AreChosen}
 use Rattle.gta_reach.specs.Reached.{IsSwept, IsClosedIn}
 use Rattle.gta_reach.proofs.ReachLemmas.{left-at, right-at, left-inside, right-inside, left-rows, right-columns, left-few, right-few, has_root}
 use Rattle.gta_reach.proofs.ReachLemmas.{step-below, AreGenerated-swept, IsClosedIn-swept}
+use Rattle.gta_reach.specs.Unset.{unset}
+use Rattle.gta_reach.proofs.UnsetLemmas.{unset_in-set}
 use Rattle.gta_reach.proofs.reached.reach_in.Goals as goal
 use Rattle.gta_reach.proofs.reached.reach_in.Goals.{After-index_mut}
 
@@ -195,3 +197,14 @@ returns-clause-closed c = λ nothing.
     c.sweep.new.states chosen_left chosen_right swept same in
     subst (λ (xs : List (List Bool)). IsClosedIn form xs s)
     (sym (ap (slice_set items s) same ∙ set-get_or items s [])) closed
+
+pub returns-clause-fewer : goal.returns-clause-fewer
+returns-clause-fewer c =
+    let items = c.args.reached.now.items in
+    let s = c.args.s in
+    let inside : s < length items = (let e = c.requires.generated.spaces in let b = c.requires.space in omega arith) in
+    let is : c.index_mut.result.now ≡ slice_index_or items s [] = get_or_read items s c.index_mut.result.now inside c.index_mut.ensures.value [] in
+    let own = ap unset is in
+    let others = unset_in-set items s c.sweep.new.states inside in
+    let fewer = c.in_ok-is_more.ensures.fewer in
+    omega arith

@@ -1,7 +1,8 @@
 -- One more space.
-use Rattle.std.proofs.Common.{◌≡◌, List, Bool, inl, inr, sym, ◌∙◌, subst, arith}
+use Rattle.std.proofs.Common.{◌≡◌, List, Bool, inl, inr, sym, ◌∙◌, ap, subst, arith}
 use Rattle.std.proofs.lemmas.Bool.{cases_lt, false≢true}
 use Rattle.gta_reach.specs.Reached.{IsClosedIn}
+use Rattle.gta_reach.specs.Unset.{one_if}
 use Rattle.gta_reach.proofs.reached.reach_more.Goals as goal
 use Rattle.gta_reach.proofs.reached.reach_more.Goals.{then-branch, else-branch}
 
@@ -20,5 +21,18 @@ loop-s-preserved c = record {
               let is : c.loop-s.s ≡ s = omega arith in
               subst (IsClosedIn form c.reach_in.new.reached.items) is (c.in_ok-reach_in.ensures.closed w.if-branch.false)
         ]
+  ];
+  fewer = elim c.if-branch.branch [
+    | then-branch w ↦
+        let now = ap one_if w.is_more-is in
+        let here = ap one_if w.if-branch.true in
+        let f = c.in_ok-reach_in.ensures.fewer in
+        let before = c.loop-s.invariant.fewer in
+        omega arith
+    | else-branch w ↦
+        let now = ap one_if w.is_more-is in
+        let f = c.in_ok-reach_in.ensures.fewer in
+        let before = c.loop-s.invariant.fewer in
+        omega arith
   ];
 }

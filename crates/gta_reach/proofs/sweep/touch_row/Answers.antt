@@ -43,6 +43,7 @@ loop-right-preserved c =
           (inv.sweeps lefts before in_left start);
       grown = Grown-trans _ _ nodes states new_nodes new_states inv.grown step;
       touched = touched-more space left rights nodes states new_nodes new_states i here at step touched inv.touched;
+      fewer = let f = inv.fewer in let g = e.fewer in omega arith;
     }
 
 pub returns-clause-touched : goal.returns-clause-touched

@@ -37,6 +37,7 @@ loop-left-preserved c =
             let same : here ≡ l = cc in
             subst (λ (q : ℕ). IsTouched nodes states (root_in space (cell_in space q r))) same (c.touch_row.ensures.touched r in_right)
       ];
+      fewer = let f = inv.fewer in let g = c.touch_row.ensures.fewer in omega arith;
     }
 
 pub returns-clause-touched : goal.returns-clause-touched

@@ -50,4 +50,5 @@ loop-index-preserved-then-index c =
           (Grown-step low_nodes low_states high_nodes high_states n.high high_nodes_are high_states_are);
       sides = AreSidesTouched-node space c.requires.ordered k inside nodes states low_nodes low_states high_nodes high_states
           (subst (AreSidesTouched space nodes states) here inv.sides) low_nodes_are low_states_are high_nodes_are high_states_are;
+      fewer = let f = inv.fewer in let g = c.touch.ensures.fewer in let h = c.touch-then-index.ensures.fewer in omega arith;
     }

@@ -19,14 +19,14 @@ loop-at-init c =
     subst (λ (list : List Listed). Climbs nodes states leaves above c.args.found.now.items list 0) (sym c.in_ok-list.ensures)
     (Climbs-start nodes states leaves above c.args.found.now.items c.requires.clear)
 
-pub returns-then-at-len-clause-climbed : goal.returns-then-at-len-clause-climbed
-returns-then-at-len-clause-climbed c =
+pub returns-clause-climbed : goal.returns-clause-climbed
+returns-clause-climbed c =
     AreClimbed-all c.args.nodes.now c.args.states.now c.args.parents.now.leaves c.args.parents.now.nodes c.requires.ordered c.requires.parents
     c.loop-at.found.items c.loop-at.list.items c.loop-at.at c.loop-at.invariant
-    (let t = c.if-at-len.true in let e = c.len.ensures in let o = c.loop-at.list.ok in omega arith) c.requires.states c.requires.nodes
+    (let t = c.loop-at-test.false in let e = c.len.ensures in let o = c.loop-at.list.ok in omega arith) c.requires.states c.requires.nodes
 
-pub returns-then-at-len-clause-clear : goal.returns-then-at-len-clause-clear
-returns-then-at-len-clause-clear c = IsClear-none c.unmark_nodes.new.marks.items (λ i marked.
+pub returns-clause-clear : goal.returns-clause-clear
+returns-clause-clear c = IsClear-none c.unmark_nodes.new.marks.items (λ i marked.
     let was = c.unmark_nodes.ensures i marked in
     was.1 (subst (λ (xs : List Listed). Contains xs (Inner i)) (sym c.deref.ensures.value) (c.loop-at.invariant.marks i was.0)))
 
@@ -36,7 +36,7 @@ loop-at-preserved c =
     let above = c.args.parents.now.nodes in
     let list = c.loop-at.list.items in
     let at = c.loop-at.at in
-    let inside : at < length list = (let t = c.if-at-len.false in let e = c.len.ensures in let o = c.loop-at.list.ok in omega arith) in
+    let inside : at < length list = (let t = c.loop-at-test.true in let e = c.len.ensures in let o = c.loop-at.list.ok in omega arith) in
     let read : c.index.result.now ≡ slice_index_or list at (Leaf 0) =
     c.index.ensures ∙ sym (get_or_default list at (Leaf 0) c.index.result.now inside) in
     Climbs-step c.args.nodes.now c.args.states.now leaves above c.requires.ordered c.requires.parents c.loop-at.found.items c.add_nodes.new.found.items list

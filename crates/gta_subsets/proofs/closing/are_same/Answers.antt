@@ -9,7 +9,7 @@ loop-place-preserved c =
     let other = c.args.other.now in
     let x = c.index-one-place.result in
     let y = c.index-other-place.result in
-    let same : x ≡ y = sym c.as_slice.ensures ∙ c.is_same.ensures c.if-not-is_same.false ∙ c.as_slice-in-loop-place.ensures in
+    let same : x ≡ y = sym c.as_slice.ensures ∙ c.is_same.ensures.same c.if-not-is_same.false ∙ c.as_slice-in-loop-place.ensures in
     take_more one i x (omega arith)
     ∙ ap (λ (set : List ℕ). take i one ++ set ∷ []) (sym c.index-one-place.is ∙ same ∙ c.index-other-place.is)
     ∙ ap (λ (front : List (List ℕ)). front ++ get_or other i y ∷ []) c.loop-place.invariant

@@ -6,24 +6,25 @@ use Rattle.gta_witness.specs.declared.goal.Found.{Found}
 use Rattle.gta_witness.specs.declared.relax.Search.{Search}
 use Rattle.gta_witness.specs.Rules.{key}
 use Rattle.gta_witness.specs.Searching.{weighs_in, found_by}
+use Rattle.gta_witness.proofs.EndingLemmas.{turns-fewer, nearer}
 use Rattle.gta_witness.proofs.SettleLemmas.{over-none, stale-running, first-taken, first-ahead, none-nearer, no-elements}
 use Rattle.gta_witness.proofs.search.advance.Goals as goal
 
 same-found : (o : Option Found) (a b : Found) → o ≡ Some a → Some b ≡ o → a ≡ b
 same-found o a b one other = let e : Some a ≡ Some b = sym one ∙ sym other in cc
 
-pub returns-in_default : goal.returns-in_default
-returns-in_default c =
-    let now = c.requires.0 in
-    let running = c.requires.1 in
+pub returns-in_default-clause-stands : goal.returns-in_default-clause-stands
+returns-in_default-clause-stands c =
+    let now = c.requires.running.0 in
+    let running = c.requires.running.1 in
     let empty : heap_items c.args.search.now.queue ≡ [] =
     no-elements (heap_items c.args.search.now.queue) (let v = c.args.search.now.queue.data.ok.0 in let n = c.in_default.ensures.none in omega arith) in
     over-none c.args.form.now (weighs_in c.args.weighed.now) now c.args.lines.now c.args.search.now running empty
 
-pub returns-in_default-at : goal.returns-in_default-at
-returns-in_default-at c =
-    let now = c.requires.0 in
-    let running = c.requires.1 in
+pub returns-in_default-at-clause-stands : goal.returns-in_default-at-clause-stands
+returns-in_default-at-clause-stands c =
+    let now = c.requires.running.0 in
+    let running = c.requires.running.1 in
     let new : Search = record { found = c.args.search.now.found; queue = c.pop.new.self } in
     let order = c.in-Some.ensures.heap_order running.is_search.heap in (
       now,
@@ -32,10 +33,10 @@ returns-in_default-at c =
           c.in-Some.ensures.permutation order.0 (λ e there unsettled near. let none : None ≡ Some e = c.in_default-at.ensures ∙ there in absurd cc),
     )
 
-pub returns-then-found : goal.returns-then-found
-returns-then-found c =
-    let now = c.requires.0 in
-    let running = c.requires.1 in
+pub returns-then-found-clause-stands : goal.returns-then-found-clause-stands
+returns-then-found-clause-stands c =
+    let now = c.requires.running.0 in
+    let running = c.requires.running.1 in
     let new : Search = record { found = c.args.search.now.found; queue = c.pop.new.self } in
     let order = c.in-Some.ensures.heap_order running.is_search.heap in (
       now,
@@ -46,10 +47,10 @@ returns-then-found c =
           false≢true (sym unsettled ∙ ap (λ (x : Found). x.is_settled) same ∙ c.if-found.true)),
     )
 
-pub returns-then-key-first : goal.returns-then-key-first
-returns-then-key-first c =
-    let now = c.requires.0 in
-    let running = c.requires.1 in
+pub returns-then-key-first-clause-stands : goal.returns-then-key-first-clause-stands
+returns-then-key-first-clause-stands c =
+    let now = c.requires.running.0 in
+    let running = c.requires.running.1 in
     let new : Search = record { found = c.args.search.now.found; queue = c.pop.new.self } in
     let order = c.in-Some.ensures.heap_order running.is_search.heap in (
       now,
@@ -63,10 +64,10 @@ returns-then-key-first c =
           absurd (omega arith)),
     )
 
-pub settle_goal-requires : goal.settle_goal-requires
-settle_goal-requires c =
-    let now = c.requires.0 in
-    let running = c.requires.1 in
+pub settle_goal-requires-clause-taken : goal.settle_goal-requires-clause-taken
+settle_goal-requires-clause-taken c =
+    let now = c.requires.running.0 in
+    let running = c.requires.running.1 in
     let new : Search = record { found = c.args.search.now.found; queue = c.pop.new.self } in
     let order = c.in-Some.ensures.heap_order running.is_search.heap in
     let form = c.args.form.now in
@@ -78,3 +79,23 @@ settle_goal-requires c =
     first-taken form weighs now c.args.lines.now c.args.search.now new c.in-Some.first running (λ i. c.args.search.now.found)
     c.in-Some.ensures.permutation order.0 c.in-Some-at.found (sym c.in-Some-at.ensures) c.if-found.false near
     (none-nearer c.in-Some.first (heap_items c.pop.new.self) (c.in-Some.ensures.below_top running.is_search.heap))
+
+pub returns-in_default-at-clause-nearer : goal.returns-in_default-at-clause-nearer
+returns-in_default-at-clause-nearer c =
+    let new : Search = record { found = c.args.search.now.found; queue = c.pop.new.self } in
+    turns-fewer c.args.search.now new (λ i. c.args.search.now.found) c.in-Some.ensures.len
+
+pub returns-then-found-clause-nearer : goal.returns-then-found-clause-nearer
+returns-then-found-clause-nearer c =
+    let new : Search = record { found = c.args.search.now.found; queue = c.pop.new.self } in
+    turns-fewer c.args.search.now new (λ i. c.args.search.now.found) c.in-Some.ensures.len
+
+pub returns-then-key-first-clause-nearer : goal.returns-then-key-first-clause-nearer
+returns-then-key-first-clause-nearer c =
+    let new : Search = record { found = c.args.search.now.found; queue = c.pop.new.self } in
+    turns-fewer c.args.search.now new (λ i. c.args.search.now.found) c.in-Some.ensures.len
+
+pub returns-clause-nearer : goal.returns-clause-nearer
+returns-clause-nearer c =
+    let new : Search = record { found = c.args.search.now.found; queue = c.pop.new.self } in
+    nearer c.settle_goal.result _ _ _ c.settle_goal.ensures.fewer (turns-fewer c.args.search.now new (λ i. c.args.search.now.found) c.in-Some.ensures.len)
