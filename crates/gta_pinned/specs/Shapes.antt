@@ -6,10 +6,6 @@ use Rattle.bdd_nodes.specs.Shelf.{Contents, IsValid, state_of}
 use Rattle.gta_theory.specs.Guides.{Spaces, IsSpace, left, right}
 use Rattle.gta_pinned.specs.declared.shapes.Shape.{Shape}
 
--- each number is less than those that follow
-pub record Rises (tracks : List ℕ) : Type 0 where
-  pub less : (i j t u : ℕ) → i < j → slice_get tracks i ≡ Some t → slice_get tracks j ≡ Some u → t < u
-
 -- the two labels have the same of these tracks
 abbrev pub AreSameOn : List ℕ → Label → Label → Type 0
 AreSameOn tracks l m = (t : ℕ) → Contains tracks t → l t ≡ m t
@@ -36,7 +32,7 @@ pub record IsStateOf (shapes : List Shape) (shape : Shape) (state : ℕ) : Type 
 pub record Fits (shelf : Contents) (shape : Shape) (l r : ℕ) (label : Label) : Type 0 where
   pub left : shape.left ≡ l
   pub right : shape.right ≡ r
-  pub label : state_of shelf shape.test label ≡ 1
+  pub told : state_of shelf shape.test label ≡ 1
 
 -- the state that the first n shapes give for two halves and a label: that of the shape that fits, and 0 where none fits
 pub data IsStep (shelf : Contents) (shapes : List Shape) (n l r : ℕ) (label : Label) : ℕ → Type 0 where

@@ -1,5 +1,6 @@
 -- The shapes of a tree's subtrees: each node has a state in the space where it stands.
 use Rattle.std.specs.Prelude.{◌≡◌, ℕ, ◌<◌, ◌↔◌, List, length, Contains, slice_get, slice_index, Option, Some, None}
+use Rattle.std.specs.List.Sorted.{IsStrictlyIncreasing}
 use Rattle.bdd_nodes.specs.Shelf.{Contents}
 use Rattle.gta_theory.specs.Guides.{Spaces}
 use Rattle.ws2s_core.specs.declared.track.Track.{Track}
@@ -7,7 +8,7 @@ use Rattle.ws2s_core.specs.declared.label_tree.TreeNode.{TreeNode}
 use Rattle.ws2s_theory.specs.Trees.{label_of, last_place}
 use Rattle.gta_core.specs.Accepting.{AreSpacesFrom}
 use Rattle.gta_pinned.specs.declared.shapes.Shape.{Shape}
-use Rattle.gta_pinned.specs.Shapes.{Rises, Tells, IsStateOf, AreShapes, shapes_in}
+use Rattle.gta_pinned.specs.Shapes.{Tells, IsStateOf, AreShapes, shapes_in}
 
 -- the state of a child; without one that of the empty tree
 abbrev pub child_state : List ℕ → Option ℕ → ℕ
@@ -30,7 +31,7 @@ pub record AreStates (shelf : Contents) (tracks : List ℕ) (lists : List (List 
 
 -- the numbers of the tracks, each once, in rising order
 pub record AreRising (tracks : List Track) (rising : List ℕ) : Type 0 where
-  pub rises : Rises rising
+  pub rises : IsStrictlyIncreasing rising
   pub same : (t : ℕ) → Contains rising t ↔ ((track : Track) × Contains tracks track × (track.0 ≡ t))
 
 -- the shapes are those of the tree's subtrees on the tracks, and the state is that of the whole tree

@@ -2,7 +2,7 @@
 
 ghost use Rattle.std.specs.Prelude.{◌≡◌, ◌<◌, ◌^◌, IfOk};
 ghost use Rattle.labels.specs.Labels.{Label};
-ghost use Rattle.bdd_nodes.specs.Shelf.{IsValid, state_of};
+ghost use Rattle.bdd_nodes.specs.Shelf.{IsShelf, IsValid, state_of};
 ghost use Rattle.gta_pinned.specs.Making.{Makes, chosen};
 
 use bdd_nodes::{NodeRef, Shelf};
@@ -36,6 +36,7 @@ pub(crate) fn choose(
     other: NodeRef,
     shelf: &mut Shelf,
 ) -> Result<NodeRef, Stop>
+    requires shelf { IsShelf shelf.old }
     requires test { IsValid shelf.old test }
     requires other { IsValid shelf.old other }
     requires small { state < 2 ^ 31 }

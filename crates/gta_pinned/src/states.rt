@@ -1,12 +1,13 @@
 //! The shapes of a tree's subtrees.
 
 ghost use Rattle.std.specs.Prelude.{◌≡◌, ◌<◌, [], ◌∷◌, IfSome, IfOk, OnOk, length, vec_len, replicate};
+ghost use Rattle.std.specs.List.Sorted.{IsStrictlyIncreasing};
 ghost use Rattle.ws2s_core.specs.LabelTrees.{IsTree};
 ghost use Rattle.gta_theory.specs.Guides.{IsSpace, left, right};
 ghost use Rattle.gta_core.specs.Accepting.{AreSpacesFrom};
 ghost use Rattle.bdd_nodes.specs.Shelf.{IsShelf};
 ghost use Rattle.gta_pinned.specs.Making.{Makes};
-ghost use Rattle.gta_pinned.specs.Shapes.{Rises, AreShapes, KeepsShapes, IsShaped, shapes_in};
+ghost use Rattle.gta_pinned.specs.Shapes.{AreShapes, KeepsShapes, IsShaped, shapes_in};
 ghost use Rattle.gta_pinned.specs.States.{child_state, IsNodeState, AreStates, AreOfTree};
 
 use crate::shapes::{EMPTY, Shape, Shapes};
@@ -56,7 +57,7 @@ fn empty_shapes(
     shelf: &mut Shelf,
 ) -> Result<Vec<Shapes>, Stop>
     requires shelf { IsShelf shelf.old }
-    requires rises { Rises rising.now }
+    requires rises { IsStrictlyIncreasing rising.now }
     ensures shapes { IfOk result (λ shapes. AreShapes g.now shelf.new rising.now shapes.items) }
     ensures makes { Makes shelf.old shelf.new }
 {
@@ -94,7 +95,7 @@ fn states_of(
     requires shelf { IsShelf shelf.old }
     requires tree { IsTree nodes.now }
     requires spaces { AreSpacesFrom g.now nodes.now 0 spaces.now }
-    requires rises { Rises rising.now }
+    requires rises { IsStrictlyIncreasing rising.now }
     requires shapes { AreShapes g.now shelf.old rising.now shapes.old.items }
     ensures shapes { OnOk result (AreShapes g.now shelf.new rising.now shapes.new.items) }
     ensures many { IfOk result (λ states. vec_len states ≡ length nodes.now) }
@@ -121,7 +122,7 @@ fn state_of(
 ) -> Result<u32, Stop>
     requires shelf { IsShelf shelf.old }
     requires inside { IsSpace _g.now space }
-    requires rises { Rises rising.now }
+    requires rises { IsStrictlyIncreasing rising.now }
     requires at_left { IfSome node.now.left (λ j. j < length states.now) }
     requires at_right { IfSome node.now.right (λ j. j < length states.now) }
     requires left { IsShaped shapes.old.items (left _g.now space) (child_state states.now node.now.left) }

@@ -1,0 +1,5 @@
+pub mod MakingLemmas
+pub mod TellsLemmas
+pub mod ShapesLemmas
+pub mod LawLemmas
+pub mod GivenLemmas
