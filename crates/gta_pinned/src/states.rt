@@ -3,7 +3,7 @@
 ghost use Rattle.std.specs.Prelude.{◌≡◌, ◌<◌, [], ◌∷◌, IfSome, IfOk, OnOk, length, vec_len, replicate};
 ghost use Rattle.std.specs.List.Sorted.{IsStrictlyIncreasing};
 ghost use Rattle.ws2s_core.specs.LabelTrees.{IsTree};
-ghost use Rattle.gta_theory.specs.Guides.{IsSpace, left, right};
+ghost use Rattle.gta_theory.specs.Guides.{IsGuide, IsSpace, left, right};
 ghost use Rattle.gta_core.specs.Accepting.{AreSpacesFrom};
 ghost use Rattle.bdd_nodes.specs.Shelf.{IsShelf};
 ghost use Rattle.gta_pinned.specs.Making.{Makes};
@@ -33,7 +33,8 @@ pub(crate) fn shapes_of(
     tracks: &TrackList,
     shelf: &mut Shelf,
 ) -> Result<TreeShapes, Stop>
-    requires { IsShelf shelf.old }
+    requires shelf { IsShelf shelf.old }
+    requires guide { IsGuide g.now }
     ensures shapes { IfOk result (λ made. AreOfTree g.now shelf.new tracks.now tree.now made.shapes.items made.root) }
     ensures makes { Makes shelf.old shelf.new }
 {
@@ -93,6 +94,7 @@ fn states_of(
     shelf: &mut Shelf,
 ) -> Result<Vec<u32>, Stop>
     requires shelf { IsShelf shelf.old }
+    requires guide { IsGuide g.now }
     requires tree { IsTree nodes.now }
     requires spaces { AreSpacesFrom g.now nodes.now 0 spaces.now }
     requires rises { IsStrictlyIncreasing rising.now }
