@@ -12,6 +12,7 @@ use Rattle.bdd_nodes.specs.declared.node_ref.NodeRef.{NodeRef}
 use Rattle.bdd_nodes.specs.Shelf.{Contents}
 use Rattle.bdd_nodes.specs.Changes.{Keeps}
 use Rattle.gta_theory.specs.Guides.{Spaces, IsGuide, IsSpace, left, right}
+use Rattle.ws2s_core.specs.declared.track.Track.{Track}
 use Rattle.ws2s_core.specs.declared.label_tree.TreeNode.{TreeNode}
 use Rattle.ws2s_core.specs.LabelTrees.{IsTree}
 use Rattle.ws2s_core.specs.Nodes.{AddsAtMost}
@@ -20,7 +21,7 @@ use Rattle.gta_core.proofs.AcceptingLemmas.{child-before}
 use Rattle.gta_core.proofs.CellsLemmas.{get-index}
 use Rattle.gta_pinned.specs.declared.shapes.Shape.{Shape}
 use Rattle.gta_pinned.specs.Shapes.{Tells, AreListed, IsStateOf, IsShaped, IsShape, IsEmptyFirst, AreShapes, KeepsShapes, shapes_in}
-use Rattle.gta_pinned.specs.States.{child_state, IsNodeState, AreStates}
+use Rattle.gta_pinned.specs.States.{child_state, IsNodeState, AreStates, AreOfTree}
 use Rattle.gta_pinned.proofs.TellsLemmas.{Tells-kept}
 
 -- the shapes of a space that changed, and those of others
@@ -54,7 +55,7 @@ adds-longer : (old new : List Shape) (shape : Shape) → AddsAtMost old shape ne
 adds-longer old new shape (inl same) = let e = ap (λ (xs : List Shape). length xs) same in omega arith
 adds-longer old new shape (inr more) = let e = ap (λ (xs : List Shape). length xs) more in omega (arith, length-append old (shape ∷ []))
 
-pub KeepsShapes-refl : (lists : List (List Shape)) → KeepsShapes lists lists
+KeepsShapes-refl : (lists : List (List Shape)) → KeepsShapes lists lists
 KeepsShapes-refl lists = record { kept = λ s k shape at. at }
 
 -- a shape comes in a space
@@ -243,3 +244,46 @@ module _ (nodes : List TreeNode) (tree : IsTree nodes) where
       let within = slice_get_within (shapes_in lists (slice_index spaces j)) state.place _ state.there in
       let e = ap (λ (m : ℕ). length (shapes_in lists m)) here.2 in
       ((let i = state.is in omega arith), (let i = state.is in omega arith))
+
+-- nodes come, and the shapes stay
+pub AreShapes-kept : (g : Spaces) (old new : Contents) → Keeps old new → (tracks : List ℕ) (lists : List (List Shape)) → AreShapes g old tracks lists →
+    AreShapes g new tracks lists
+AreShapes-kept g old new keeps tracks lists shapes = record {
+  many = shapes.many;
+  empty = λ s there.
+      let first = shapes.empty s there in
+      record {
+        shape = first.shape;
+        there = first.there;
+        left = first.left;
+        right = first.right;
+        tells = Tells-kept old new tracks empty_label first.shape.test keeps first.tells;
+      };
+  each = λ s k shape there at.
+      let was = shapes.each s k shape there at in
+      record {
+        known = was.known;
+        tells = Tells-kept old new tracks was.known shape.test keeps was.tells;
+        left = was.left;
+        right = was.right;
+      };
+  listed = shapes.listed;
+}
+
+pub AreOfTree-kept : (g : Spaces) (old new : Contents) → Keeps old new → (tracks : List Track) (nodes : List TreeNode) (lists : List (List Shape)) (root : ℕ) →
+    AreOfTree g old tracks nodes lists root → AreOfTree g new tracks nodes lists root
+AreOfTree-kept g old new keeps tracks nodes lists root of_tree = record {
+  rising = of_tree.rising;
+  are_rising = of_tree.are_rising;
+  shapes = AreShapes-kept g old new keeps of_tree.rising lists of_tree.shapes;
+  spaces = of_tree.spaces;
+  are_spaces = of_tree.are_spaces;
+  states = of_tree.states;
+  many = of_tree.many;
+  are_states = record {
+    each = λ k node inside at.
+        IsNodeState-kept old new keeps of_tree.rising lists lists (KeepsShapes-refl lists) (slice_index of_tree.spaces k) of_tree.states of_tree.states node
+        (slice_index of_tree.states k) refl refl (of_tree.are_states.each k node inside at);
+  };
+  is_root = of_tree.is_root;
+}

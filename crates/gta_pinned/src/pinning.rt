@@ -44,8 +44,8 @@ pub fn pinned(
     ensures same_limit { limit_of shelf.new ≡ limit_of shelf.old }
     ensures shelf { IsShelf shelf.new }
 {
-    // Only for their clauses `shelf` and `guide`.
-    let _ = (shelf.count(), g.children(0));
+    // Only for their clauses `shelf`, `guide` and `inside`.
+    let _ = (shelf.count(), g.children(0), tree.nodes().len());
     let made = shapes_of(alloc, g, tree, tracks, shelf)?;
     let spaces = parts(alloc, g, &made.shapes, shelf)?;
     let accepting = only(alloc, made.root, made.shapes[0].len() as u32 + 1)?;
