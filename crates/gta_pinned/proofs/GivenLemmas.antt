@@ -1,5 +1,5 @@
 -- The parts that were made give an automaton, and what it accepts.
-use Rattle.std.proofs.Common.{◌≡◌, ◌↔◌, ℕ, suc, ◌+◌, ◌*◌, ◌<◌, Bool, false, IsTrue, nat_eq, nat_lt, List, [], length, get_or, Contains, Option, Some, None}
+use Rattle.std.proofs.Common.{◌≡◌, ◌↔◌, ℕ, ◌+◌, ◌*◌, ◌<◌, Bool, false, nat_eq, List, [], length, get_or, Option, Some, None}
 use Rattle.std.proofs.Common.{sym, ap, subst, ◌∙◌, arith}
 use Rattle.std.specs.Prelude.{slice_get, unwrap_or, option_map, option_and_then}
 use Rattle.std.specs.List.{range_with_len}
@@ -11,7 +11,7 @@ use Rattle.std.proofs.lemmas.List.FromFn.{get_or-range_with_len, length-range_wi
 use Rattle.labels.specs.Labels.{Label}
 use Rattle.bdd_nodes.specs.declared.node_ref.NodeRef.{NodeRef}
 use Rattle.bdd_nodes.specs.Shelf.{Contents, IsShelf, state_of}
-use Rattle.gta_theory.specs.Assignments.{Position, Assignment, Covers}
+use Rattle.gta_theory.specs.Assignments.{Assignment, Covers}
 use Rattle.gta_theory.specs.Guides.{Spaces, IsGuide, IsSpace, left, right}
 use Rattle.gta_theory.specs.Automata.{Automaton, Accepts}
 use Rattle.gta_theory.specs.Constructions.{IsClosed}
@@ -26,14 +26,14 @@ use Rattle.gta_pinned.specs.declared.shapes.Shape.{Shape}
 use Rattle.gta_pinned.specs.Alike.{AreAlikeOn}
 use Rattle.gta_pinned.specs.Shapes.{IsStep, AreShapes, shapes_in}
 use Rattle.gta_pinned.specs.States.{AreRising, AreOfTree}
-use Rattle.gta_pinned.specs.Parts.{AreUsable, AreAllUsable, IsPartIn, count_in, are_only}
+use Rattle.gta_pinned.specs.Parts.{AreAllUsable, IsPartIn, count_in, are_only}
 use Rattle.gta_pinned.proofs.LawLemmas.{AreAlike, HasSteps, step-small, some-shape, stable, accepts-alike}
 
 -- the tracks in rising order are the tracks
-pub alike-rising : (tracks : List Track) (rising : List ℕ) (a b : Assignment) → AreRising tracks rising → AreAlike rising a b → AreAlikeOn tracks a b
+alike-rising : (tracks : List Track) (rising : List ℕ) (a b : Assignment) → AreRising tracks rising → AreAlike rising a b → AreAlikeOn tracks a b
 alike-rising tracks rising a b same alike track p inside = alike track.0 p ((same.same track.0).1 (track, inside, (λ i. track.0)))
 
-pub alike-tracks : (tracks : List Track) (rising : List ℕ) (a b : Assignment) → AreRising tracks rising → AreAlikeOn tracks a b → AreAlike rising a b
+alike-tracks : (tracks : List Track) (rising : List ℕ) (a b : Assignment) → AreRising tracks rising → AreAlikeOn tracks a b → AreAlike rising a b
 alike-tracks tracks rising a b same alike t p inside =
     let track = (same.same t).0 inside in
     subst (λ (u : ℕ). a u p ≡ b u p) track.2 (alike track.0 p track.1)
@@ -70,7 +70,7 @@ module _ (g : Spaces) (guide : IsGuide g) (shelf : Contents) (is_shelf : IsShelf
   is_part : (s : ℕ) → IsSpace g s → IsPartIn g shelf lists s (part_at s)
   is_part s there = each s (part_at s) (at s there)
 
-  pub states-at : (s : ℕ) → IsSpace g s → given_states spaces s ≡ count_in lists s
+  states-at : (s : ℕ) → IsSpace g s → given_states spaces s ≡ count_in lists s
   states-at s there = ap (λ (o : Option SpacePart). unwrap_or (option_map (λ part. part.states) o) 0) (at s there) ∙ (is_part s there).states
 
   initial-at : (s : ℕ) → IsSpace g s → given_initial spaces s ≡ 1

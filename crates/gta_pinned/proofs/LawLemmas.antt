@@ -1,7 +1,7 @@
 -- The law of acceptance: what is accepted where the steps are those of the shapes of a tree.
-use Rattle.std.proofs.Common.{◌≡◌, ◌≢◌, ◌↔◌, ℕ, zero, suc, ◌+◌, ◌<◌, ◌≤◌, max, true, false, IsTrue, nat_eq, List, [], ◌∷◌, length, get_or, Contains, Option, Some, None}
+use Rattle.std.proofs.Common.{◌≡◌, ◌≢◌, ◌↔◌, ℕ, zero, suc, ◌+◌, ◌<◌, max, true, false, nat_eq, List, [], ◌∷◌, length, get_or, Contains, Option, Some, None}
 use Rattle.std.proofs.Common.{slice_get, refl, sym, ◌∙◌, ap, subst, inl, inr, arith, zero-le, eqb-true, eq-eqb}
-use Rattle.std.proofs.lemmas.Option.{slice_get_within, slice_get-get_or}
+use Rattle.std.proofs.lemmas.Option.{slice_get_within}
 use Rattle.labels.specs.Labels.{Label, empty_label}
 use Rattle.bdd_nodes.specs.Shelf.{Contents, IsShelf, state_of}
 use Rattle.gta_theory.specs.Assignments.{Position, Assignment, Covers, half, root_label}
@@ -18,8 +18,8 @@ use Rattle.gta_core.specs.Accepting.{AreSpacesFrom}
 use Rattle.gta_core.proofs.AcceptingLemmas.{child-before}
 use Rattle.gta_core.proofs.CellsLemmas.{get-index}
 use Rattle.gta_pinned.specs.declared.shapes.Shape.{Shape}
-use Rattle.gta_pinned.specs.Shapes.{AreSameOn, Tells, Fits, IsStep, astray, shaped, AreShapes, IsShape, shapes_in}
-use Rattle.gta_pinned.specs.States.{child_state, IsNodeState, AreStates}
+use Rattle.gta_pinned.specs.Shapes.{AreSameOn, Fits, IsStep, astray, shaped, AreShapes, IsShape, shapes_in}
+use Rattle.gta_pinned.specs.States.{child_state, AreStates}
 use Rattle.gta_pinned.specs.Parts.{count_in}
 use Rattle.gta_pinned.proofs.TellsLemmas.{AreSameOn-sym, tests-same}
 use Rattle.gta_pinned.proofs.ShapesLemmas.{shapes-same}
@@ -74,7 +74,7 @@ module _ (g : Spaces) (guide : IsGuide g) (shelf : Contents) (is_shelf : IsShelf
       (shapes.listed s there).once i j x at_x (at_y ∙ ap (λ (z : Shape). let o : Option Shape = Some z in o) e)
 
   -- labels with the same tracks have one step
-  pub step-once : (s l r : ℕ) (a b : Label) (p q : ℕ) → IsSpace g s → AreSameOn tracks a b → Step s l r a p → Step s l r b q → p ≡ q
+  step-once : (s l r : ℕ) (a b : Label) (p q : ℕ) → IsSpace g s → AreSameOn tracks a b → Step s l r a p → Step s l r b q → p ≡ q
   step-once s l r a b _ _ there same (astray none) (astray none') = refl
   step-once s l r a b _ _ there same (astray none) (shaped k y inside at fits) =
       absurd (none k y inside at (fits-also s k y l r b a there at fits (AreSameOn-sym tracks a b same)))
@@ -86,7 +86,7 @@ module _ (g : Spaces) (guide : IsGuide g) (shelf : Contents) (is_shelf : IsShelf
   pub some-shape : (s : ℕ) → IsSpace g s → 1 < count_in lists s
   some-shape s there = let first = shapes.empty s there in omega (arith, slice_get_within (shapes_in lists s) 0 first.shape first.there)
 
-  pub empty-step : (s : ℕ) → IsSpace g s → Step s 1 1 empty_label 1
+  empty-step : (s : ℕ) → IsSpace g s → Step s 1 1 empty_label 1
   empty-step s there =
       let first = shapes.empty s there in
       shaped 0 first.shape (slice_get_within (shapes_in lists s) 0 first.shape first.there) first.there
@@ -105,7 +105,7 @@ module _ (g : Spaces) (guide : IsGuide g) (shelf : Contents) (is_shelf : IsShelf
           ∙ sym (has.initial s there);
     }
 
-    pub value-small : (n s : ℕ) (a : Assignment) → IsSpace g s → value g A s n a < count_in lists s
+    value-small : (n s : ℕ) (a : Assignment) → IsSpace g s → value g A s n a < count_in lists s
     value-small zero s a there = subst (λ (q : ℕ). q < count_in lists s) (sym (has.initial s there)) (some-shape s there)
     value-small (suc n) s a there =
         step-small shelf (shapes_in lists s) (length (shapes_in lists s)) _ _ (root_label a) _
@@ -119,7 +119,7 @@ module _ (g : Spaces) (guide : IsGuide g) (shelf : Contents) (is_shelf : IsShelf
         (value-small n (left g s) (half false a) (guide.left_inside s there)) (value-small n (right g s) (half true a) (guide.right_inside s there))
 
     -- assignments that are alike have one value
-    pub value-alike : (n s : ℕ) (a b : Assignment) → IsSpace g s → AreAlike tracks a b → value g A s n a ≡ value g A s n b
+    value-alike : (n s : ℕ) (a b : Assignment) → IsSpace g s → AreAlike tracks a b → value g A s n a ≡ value g A s n b
     value-alike zero s a b there alike = refl
     value-alike (suc n) s a b there alike =
         let l = value-alike n (left g s) (half false a) (half false b) (guide.left_inside s there) (λ t p inside. alike t (false ∷ p) inside) in
@@ -169,7 +169,7 @@ module _ (g : Spaces) (guide : IsGuide g) (shelf : Contents) (is_shelf : IsShelf
         whole t (false ∷ p) inside = at_left t p inside
         whole t (true ∷ p) inside = at_right t p inside
 
-    pub alike-value : (n s : ℕ) (a b : Assignment) → IsSpace g s → Covers n a → Covers n b → value g A s n a ≡ value g A s n b →
+    alike-value : (n s : ℕ) (a b : Assignment) → IsSpace g s → Covers n a → Covers n b → value g A s n a ≡ value g A s n b →
         value g A s n a ≢ 0 → AreAlike tracks a b
     alike-value zero s a b there in_a in_b same other = λ t p inside. in_a t p zero-le ∙ sym (in_b t p zero-le)
     alike-value (suc n) s a b there in_a in_b same other =

@@ -1,13 +1,13 @@
 -- Lists of shapes while a shape comes.
-use Rattle.std.proofs.Common.{◌≡◌, ◌≢◌, ◌⊎◌, ℕ, ◌+◌, ◌<◌, ◌≤◌, List, [], ◌∷◌, ◌++◌, length, get_or, set, Option, Some, None, IfSome, slice_get, slice_index}
+use Rattle.std.proofs.Common.{◌≡◌, ◌≢◌, ◌⊎◌, ℕ, ◌<◌, ◌≤◌, List, [], ◌∷◌, ◌++◌, length, get_or, set, Option, Some, None, slice_get, slice_index}
 use Rattle.std.proofs.Common.{refl, sym, ◌∙◌, ap, subst, inl, inr, arith, length-append, get_or-set_same, get_or-set_other}
-use Rattle.std.specs.Prelude.{replicate, unwrap_or}
+use Rattle.std.specs.Prelude.{replicate}
 use Rattle.std.proofs.lemmas.Bool.{cases_eq, cases_lt}
 use Rattle.std.proofs.lemmas.List.{length-set, length-replicate, get_or-replicate, get_or_push}
 use Rattle.std.proofs.lemmas.Option.{slice_get_within, unwrap_or-slice_get}
 use Rattle.std.proofs.Math.ListN.{get_or-append}
 use Rattle.labels.specs.Labels.{empty_label}
-use Rattle.gta_theory.proofs.ListedLemmas.{slice_get-front, slice_get-last, slice_get-push}
+use Rattle.gta_theory.proofs.ListedLemmas.{slice_get-front, slice_get-push}
 use Rattle.bdd_nodes.specs.declared.node_ref.NodeRef.{NodeRef}
 use Rattle.bdd_nodes.specs.Shelf.{Contents}
 use Rattle.bdd_nodes.specs.Changes.{Keeps}
@@ -16,11 +16,10 @@ use Rattle.ws2s_core.specs.declared.track.Track.{Track}
 use Rattle.ws2s_core.specs.declared.label_tree.TreeNode.{TreeNode}
 use Rattle.ws2s_core.specs.LabelTrees.{IsTree}
 use Rattle.ws2s_core.specs.Nodes.{AddsAtMost}
-use Rattle.gta_core.specs.Accepting.{AreSpacesFrom}
 use Rattle.gta_core.proofs.AcceptingLemmas.{child-before}
 use Rattle.gta_core.proofs.CellsLemmas.{get-index}
 use Rattle.gta_pinned.specs.declared.shapes.Shape.{Shape}
-use Rattle.gta_pinned.specs.Shapes.{Tells, AreListed, IsStateOf, IsShaped, IsShape, IsEmptyFirst, AreShapes, KeepsShapes, shapes_in}
+use Rattle.gta_pinned.specs.Shapes.{Tells, AreListed, IsShaped, IsShape, AreShapes, KeepsShapes, shapes_in}
 use Rattle.gta_pinned.specs.States.{child_state, IsNodeState, AreStates, AreOfTree}
 use Rattle.gta_pinned.proofs.TellsLemmas.{Tells-kept}
 
@@ -116,16 +115,16 @@ module _ (g : Spaces) (old new : Contents) (keeps : Keeps old new) (tracks : Lis
           elim (cases_eq i s) [
             | inl same ↦ elim (adds-cases (shapes_in lists s) now shape adds k x
                 (ap (λ (xs : List Shape). slice_get xs k) (sym now-there) ∙ ap (λ (j : ℕ). slice_get (shapes_in changed j) k) (sym same) ∙ at)) [
-              | inl before ↦ was (shapes.each i k x there (ap (λ (j : ℕ). slice_get (shapes_in lists j) k) same ∙ before))
-              | inr came ↦
-                  subst (λ (y : Shape). IsShape g new tracks changed i y) came
-                  (subst (λ (j : ℕ). IsShape g new tracks changed j shape) (sym same) (record {
-                    known = is_shape.known;
-                    tells = is_shape.tells;
-                    left = still-shaped (left g s) shape.left is_shape.left;
-                    right = still-shaped (right g s) shape.right is_shape.right;
-                  }))
-            ]
+                  | inl before ↦ was (shapes.each i k x there (ap (λ (j : ℕ). slice_get (shapes_in lists j) k) same ∙ before))
+                  | inr came ↦
+                      subst (λ (y : Shape). IsShape g new tracks changed i y) came
+                      (subst (λ (j : ℕ). IsShape g new tracks changed j shape) (sym same) (record {
+                        known = is_shape.known;
+                        tells = is_shape.tells;
+                        left = still-shaped (left g s) shape.left is_shape.left;
+                        right = still-shaped (right g s) shape.right is_shape.right;
+                      }))
+                ]
             | inr other ↦ was (shapes.each i k x there (ap (λ (xs : List Shape). slice_get xs k) (sym (shapes_in-other lists s i now other)) ∙ at))
           ];
       listed = λ i there. elim (cases_eq i s) [

@@ -1,12 +1,9 @@
 -- Changes one after the other, and what is chosen.
-use Rattle.std.proofs.Common.{◌≡◌, ◌≢◌, ℕ, Bool, true, false, ◌<◌, ◌^◌, nat_eq, if◌then◌else◌, List, [], ◌∷◌, Option, Some, refl, sym, ◌∙◌, ap, eq-eqb, ne_eqb, arith}
-use Rattle.labels.specs.Labels.{Label}
-use Rattle.bdd_nodes.specs.declared.node_ref.NodeRef.{NodeRef}
-use Rattle.bdd_nodes.specs.Shelf.{Contents, IsShelf, IsValid, state_of, choice_of, limit_of}
-use Rattle.bdd_nodes.specs.Changes.{Keeps, SameTables}
+use Rattle.std.proofs.Common.{◌≡◌, ◌≢◌, ℕ, Bool, true, false, ◌<◌, if◌then◌else◌, List, [], ◌∷◌, Option, Some, refl, sym, ◌∙◌, ap, eq-eqb, ne_eqb, arith}
+use Rattle.bdd_nodes.specs.Shelf.{Contents, IsShelf}
 use Rattle.bdd_nodes.proofs.CallerLemmas.{Keeps-refl, Keeps-trans}
 use Rattle.bdd_walk.specs.Answers.{KeepsAnswers}
-use Rattle.gta_pinned.specs.Making.{Makes, where_same, chosen, chosen_of, IsChoice}
+use Rattle.gta_pinned.specs.Making.{Makes, where_same, chosen, chosen_of}
 
 pub Makes-refl : (shelf : Contents) → IsShelf shelf → Makes shelf shelf
 Makes-refl shelf is_shelf = record { keeps = Keeps-refl shelf; tables = refl; same_limit = refl; now = is_shelf }
@@ -30,23 +27,6 @@ pub chosen-answer : (state test other answer : ℕ) (new : List ℕ → Option �
     new (test ∷ other ∷ []) ≡ Some answer → answer ≡ chosen state test other
 chosen-answer state test other answer new keeps is =
     let e : ◌≡◌ {A = Option ℕ} (Some answer) (Some (chosen state test other)) = sym is ∙ keeps (test ∷ other ∷ []) (chosen state test other) refl in cc
-
--- the sides of a node that asks whether a track is set
-pub choice-set : (shelf : Contents) (track : ℕ) (none test : NodeRef) (label : Label) → state_of shelf none label ≡ 0 →
-    choice_of shelf track none test label ≡ where_same (label track) true (state_of shelf test label)
-choice-set shelf track none test label is = pick (label track)
-  where
-    pick : (b : Bool) → (if b then state_of shelf test label else state_of shelf none label) ≡ where_same b true (state_of shelf test label)
-    pick true = refl
-    pick false = is
-
-pub choice-unset : (shelf : Contents) (track : ℕ) (none test : NodeRef) (label : Label) → state_of shelf none label ≡ 0 →
-    choice_of shelf track test none label ≡ where_same (label track) false (state_of shelf test label)
-choice-unset shelf track none test label is = pick (label track)
-  where
-    pick : (b : Bool) → (if b then state_of shelf none label else state_of shelf test label) ≡ where_same b false (state_of shelf test label)
-    pick true = is
-    pick false = refl
 
 pub where_same-there : (b c : Bool) (state : ℕ) → b ≡ c → where_same b c state ≡ state
 where_same-there true true state same = refl

@@ -1,8 +1,8 @@
 -- Roots for pairs of states, shape after shape.
-use Rattle.std.proofs.Common.{◌≡◌, ◌≢◌, ◌⊎◌, ℕ, suc, ◌+◌, ◌*◌, ◌/◌, ◌<◌, List, [], ◌∷◌, ◌++◌, length, get_or, set, All, Option, Some, None, slice_get}
-use Rattle.std.proofs.Common.{refl, sym, ◌∙◌, ap, subst, inl, inr, arith, length-append, get_or-set_same, get_or-set_other}
+use Rattle.std.proofs.Common.{◌≡◌, ◌≢◌, ℕ, suc, ◌+◌, ◌*◌, ◌/◌, ◌<◌, List, [], length, get_or, set, Option, Some, slice_get}
+use Rattle.std.proofs.Common.{refl, sym, ◌∙◌, ap, subst, inl, inr, arith, get_or-set_same, get_or-set_other}
 use Rattle.std.specs.Prelude.{replicate, unwrap_or}
-use Rattle.std.proofs.lemmas.Bool.{cases_eq, cases_lt}
+use Rattle.std.proofs.lemmas.Bool.{cases_eq}
 use Rattle.std.proofs.lemmas.Nat.{div-mul-add, mul-add-lt}
 use Rattle.std.proofs.Math.Nat.{mul_comm}
 use Rattle.std.proofs.lemmas.List.{length-set, length-replicate, get_or-replicate}
@@ -16,14 +16,14 @@ use Rattle.gta_core.specs.declared.build.SpacePart.{SpacePart}
 use Rattle.gta_pinned.specs.declared.shapes.Shape.{Shape}
 use Rattle.gta_pinned.specs.Making.{chosen}
 use Rattle.gta_pinned.specs.Shapes.{Fits, IsStep, astray, shaped, shapes_in}
-use Rattle.gta_pinned.specs.Parts.{AreUsable, AreAllUsable, AreRoots, IsPartIn, count_in}
+use Rattle.gta_pinned.specs.Parts.{AreAllUsable, AreRoots, IsPartIn, count_in}
 use Rattle.gta_pinned.proofs.MakingLemmas.{chosen-there, chosen-elsewhere}
 
 -- a pair has a place of its own
-pub pair-left : (w l r m n : ℕ) → r < w → n < w → l * w + r ≡ m * w + n → l ≡ m
+pair-left : (w l r m n : ℕ) → r < w → n < w → l * w + r ≡ m * w + n → l ≡ m
 pair-left w l r m n r_in n_in same = sym (div-mul-add l w r r_in) ∙ ap (λ (k : ℕ). k / w) same ∙ div-mul-add m w n n_in
 
-pub pair-right : (w l r m n : ℕ) → r < w → n < w → l * w + r ≡ m * w + n → r ≡ n
+pair-right : (w l r m n : ℕ) → r < w → n < w → l * w + r ≡ m * w + n → r ≡ n
 pair-right w l r m n r_in n_in same =
     let e = ap (λ (k : ℕ). k * w) (pair-left w l r m n r_in n_in same) in omega (arith, same, e)
 
@@ -71,7 +71,7 @@ module _ (old new : Contents) (keeps : Keeps old new) where
         ])
     IsStep-next n l r label _ (shaped k shape inside at fits) unfit = shaped k shape (omega arith) at (Fits-kept shape l r label (tests k shape at) fits)
 
-    pub AreRoots-kept : (n height width : ℕ) (roots : List NodeRef) → AreRoots old shapes n height width roots → AreRoots new shapes n height width roots
+    AreRoots-kept : (n height width : ℕ) (roots : List NodeRef) → AreRoots old shapes n height width roots → AreRoots new shapes n height width roots
     AreRoots-kept n height width roots are = record {
       many = are.many;
       valid = λ k d inside. keeps.valid (get_or roots k d) (are.valid k d inside);

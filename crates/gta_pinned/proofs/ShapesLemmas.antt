@@ -1,16 +1,14 @@
 -- Lists of shapes, each once.
-use Rattle.std.proofs.Common.{◌≡◌, ◌⊎◌, ℕ, zero, suc, ◌+◌, ◌<◌, ◌^◌, Bool, true, false, if◌then◌else◌, List, [], ◌∷◌, ◌++◌, length, Contains, Option, Some, slice_get}
+use Rattle.std.proofs.Common.{◌≡◌, ℕ, zero, suc, ◌+◌, ◌<◌, ◌^◌, Bool, true, false, if◌then◌else◌, List, [], ◌∷◌, ◌++◌, length, Option, Some, slice_get}
 use Rattle.std.proofs.Common.{refl, sym, ◌∙◌, ap, subst, inl, inr, arith, eqb-true, eq-eqb, length-append, nat_eq}
 use Rattle.std.specs.Prelude.{◌&&◌, ◌||◌}
 use Rattle.std.specs.List.{list_any}
 use Rattle.std.proofs.lemmas.Bool.{cases_Bool, false≢true}
 use Rattle.bdd_walk.specs.Laws.{and-left, and-right, and-both, same_word}
 use Rattle.gta_theory.proofs.ListedLemmas.{slice_get-push}
-use Rattle.std.proofs.lemmas.Option.{slice_get_within}
-use Rattle.ws2s_core.specs.Nodes.{AddsAtMost}
 use Rattle.gta_pinned.specs.declared.shapes.Shape.{Shape}
 use Rattle.gta_pinned.specs.contracts.shapes.ShapePartialEq.TheImpl as shape_eq
-use Rattle.gta_pinned.specs.Shapes.{AreListed, IsStateOf}
+use Rattle.gta_pinned.specs.Shapes.{AreListed}
 
 abbrev pub same_shape : Shape → Shape → Bool
 same_shape = (shape_eq.ghosts).eq
@@ -19,7 +17,7 @@ same_shape = (shape_eq.ghosts).eq
 pub shapes-same : (a b : Shape) → a.left ≡ b.left → a.right ≡ b.right → a.test ≡ b.test → a ≡ b
 shapes-same a b left right test = λ i. record { left = left i; right = right i; test = test i }
 
-pub same_shape-true : (a b : Shape) → same_shape a b ≡ true → a ≡ b
+same_shape-true : (a b : Shape) → same_shape a b ≡ true → a ≡ b
 same_shape-true a b e =
     let later = and-right (nat_eq a.left b.left) (nat_eq a.right b.right && nat_eq a.test.word b.test.word) e in
     shapes-same a b
@@ -27,7 +25,7 @@ same_shape-true a b e =
     (eqb-true a.right b.right (and-left (nat_eq a.right b.right) (nat_eq a.test.word b.test.word) later))
     (same_word a.test b.test (and-right (nat_eq a.right b.right) (nat_eq a.test.word b.test.word) later))
 
-pub same_shape-refl : (a : Shape) → same_shape a a ≡ true
+same_shape-refl : (a : Shape) → same_shape a a ≡ true
 same_shape-refl a =
     and-both (nat_eq a.left a.left) (nat_eq a.right a.right && nat_eq a.test.word a.test.word) (eq-eqb a.left a.left refl)
     (and-both (nat_eq a.right a.right) (nat_eq a.test.word a.test.word) (eq-eqb a.right a.right refl) (eq-eqb a.test.word a.test.word refl))
@@ -60,27 +58,10 @@ AreListed-push old shape listed absent room = record {
 }
 
 -- a shape is put in
-module _ (old new : List Shape) (shape : Shape) (is : new ≡ (if list_any (same_shape shape) old then old else old ++ shape ∷ [])) where
-  pub AreListed-insert : AreListed old → length old + 1 < 2 ^ 31 → AreListed new
-  AreListed-insert listed room = elim (cases_Bool (list_any (same_shape shape) old)) [
-    | inl there ↦ subst AreListed (sym (is ∙ ap (λ (b : Bool). if b then old else old ++ shape ∷ []) there)) listed
-    | inr absent ↦ subst AreListed (sym (is ∙ ap (λ (b : Bool). if b then old else old ++ shape ∷ []) absent))
-        (AreListed-push old shape listed absent room)
-  ]
-
-  pub Adds-insert : AddsAtMost old shape new
-  Adds-insert = elim (cases_Bool (list_any (same_shape shape) old)) [
-    | inl there ↦ inl (is ∙ ap (λ (b : Bool). if b then old else old ++ shape ∷ []) there)
-    | inr absent ↦ inr (is ∙ ap (λ (b : Bool). if b then old else old ++ shape ∷ []) absent)
-  ]
-
-pub AreListed-none : AreListed []
-AreListed-none = record { once = λ i j shape at_i at_j. absurd cc; few = omega arith }
-
-pub IsStateOf-place : (shapes : List Shape) (shape : Shape) (place : ℕ) → ((k : Shape) × (slice_get shapes place ≡ Some k) × (same_shape shape k ≡ true)) →
-    IsStateOf shapes shape (place + 1)
-IsStateOf-place shapes shape place stored = record {
-  place = place;
-  is = omega arith;
-  there = stored.1 ∙ ap (λ (s : Shape). let o : Option Shape = Some s in o) (sym (same_shape-true shape stored.0 stored.2));
-}
+pub AreListed-insert : (old new : List Shape) (shape : Shape) → new ≡ (if list_any (same_shape shape) old then old else old ++ shape ∷ []) →
+    AreListed old → length old + 1 < 2 ^ 31 → AreListed new
+AreListed-insert old new shape is listed room = elim (cases_Bool (list_any (same_shape shape) old)) [
+  | inl there ↦ subst AreListed (sym (is ∙ ap (λ (b : Bool). if b then old else old ++ shape ∷ []) there)) listed
+  | inr absent ↦ subst AreListed (sym (is ∙ ap (λ (b : Bool). if b then old else old ++ shape ∷ []) absent))
+      (AreListed-push old shape listed absent room)
+]

@@ -1,8 +1,7 @@
 -- Tests of labels, track after track.
-use Rattle.std.proofs.Common.{◌≡◌, ◌⊎◌, ℕ, suc, ◌<◌, ◌≤◌, List, length, get_or, Contains, Option, Some, slice_get, refl, sym, ◌∙◌, ap, subst, inl, inr, arith}
-use Rattle.std.specs.List.{AllPairs}
+use Rattle.std.proofs.Common.{◌≡◌, ℕ, suc, ◌<◌, ◌≤◌, List, length, Option, Some, slice_get, sym, ◌∙◌, ap, subst, inl, inr, arith}
 use Rattle.std.specs.List.Sorted.{IsStrictlyIncreasing}
-use Rattle.std.proofs.lemmas.Bool.{cases_eq, cases_lt}
+use Rattle.std.proofs.lemmas.Bool.{cases_eq}
 use Rattle.std.proofs.lemmas.List.Kept.{AllPairs-from_increasing}
 use Rattle.std.proofs.lemmas.Option.{slice_get_within, slice_get-get_or, get_or_from_slice_get}
 use Rattle.labels.specs.Labels.{Label}
@@ -26,7 +25,7 @@ Tells-kept old new tracks known test keeps told = record {
 pub AreSameOn-sym : (tracks : List ℕ) (l m : Label) → AreSameOn tracks l m → AreSameOn tracks m l
 AreSameOn-sym tracks l m same t there = sym (same t there)
 
-pub AreSameOn-trans : (tracks : List ℕ) (l m n : Label) → AreSameOn tracks l m → AreSameOn tracks m n → AreSameOn tracks l n
+AreSameOn-trans : (tracks : List ℕ) (l m n : Label) → AreSameOn tracks l m → AreSameOn tracks m n → AreSameOn tracks l n
 AreSameOn-trans tracks l m n first second t there = first t there ∙ second t there
 
 -- two tests that tell a common label are one
@@ -73,7 +72,7 @@ TellsFrom-end shelf tracks k known test past leaf = record {
 some-same : (tracks : List ℕ) (i t u : ℕ) → slice_get tracks i ≡ Some t → slice_get tracks i ≡ Some u → t ≡ u
 some-same tracks i t u at is = let e : ◌≡◌ {A = Option ℕ} (Some t) (Some u) = sym at ∙ is in cc
 
-pub rising-less : (tracks : List ℕ) → IsStrictlyIncreasing tracks → (i j t u : ℕ) → i < j → slice_get tracks i ≡ Some t → slice_get tracks j ≡ Some u → t < u
+rising-less : (tracks : List ℕ) → IsStrictlyIncreasing tracks → (i j t u : ℕ) → i < j → slice_get tracks i ≡ Some t → slice_get tracks j ≡ Some u → t < u
 rising-less tracks rises i j t u less at_i at_j =
     let pair = AllPairs-from_increasing tracks rises i j 0 less (slice_get_within tracks j u at_j) in
     omega (arith, pair, get_or_from_slice_get tracks i t 0 at_i, get_or_from_slice_get tracks j u 0 at_j)

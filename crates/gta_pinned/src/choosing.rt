@@ -24,7 +24,11 @@ impl LeafRule for Choosing {
 
     fn leaf(&mut self, states: &StateList) -> Result<u32, AllocError> {
         let states = states.as_slice();
-        Ok(if states[0] == 1 { self.state } else { states[1] })
+        Ok(if states[0] == 1 {
+            self.state
+        } else {
+            states[1]
+        })
     }
 }
 

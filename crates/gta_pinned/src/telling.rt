@@ -39,11 +39,7 @@ fn has_track(tracks: &[Track], number: u32) -> bool
 }
 
 /// The function that is 1 at the labels that have, of the rising tracks, those that `known` has and no others; and 0 elsewhere.
-pub(crate) fn telling(
-    rising: &[u32],
-    known: &[Track],
-    shelf: &mut Shelf,
-) -> Result<NodeRef, Full>
+pub(crate) fn telling(rising: &[u32], known: &[Track], shelf: &mut Shelf) -> Result<NodeRef, Full>
     requires shelf { IsShelf shelf.old }
     requires rises { IsStrictlyIncreasing rising.now }
     ensures tells { IfOk result (Tells shelf.new rising.now (label_of known.now)) }

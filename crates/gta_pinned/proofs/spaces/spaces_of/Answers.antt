@@ -2,7 +2,6 @@ use Rattle.std.proofs.Common.{◌≡◌, ℕ, suc, ◌-◌, ◌<◌, ◌≤◌, 
 use Rattle.std.specs.Prelude.{slice_get, unwrap_or}
 use Rattle.std.proofs.lemmas.Option.{slice_get_read}
 use Rattle.std.proofs.lemmas.List.{get_or_read}
-use Rattle.gta_theory.specs.Guides.{left, right}
 use Rattle.gta_core.specs.Accepting.{with_space, AreSpacesFrom}
 use Rattle.gta_core.proofs.AcceptingLemmas.{IfSome-less, length-with, AreSpacesFrom-start, AreSpacesFrom-put, put_both}
 use Rattle.gta_pinned.proofs.spaces.spaces_of.Goals as goal

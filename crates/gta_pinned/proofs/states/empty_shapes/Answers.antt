@@ -1,4 +1,4 @@
-use Rattle.std.proofs.Common.{◌≡◌, [], ◌∷◌, ℕ, List, length, replicate, sym, ap, subst, ◌∙◌}
+use Rattle.std.proofs.Common.{[], ◌∷◌, ℕ, List, replicate, sym, ap, subst, ◌∙◌}
 use Rattle.gta_pinned.specs.declared.shapes.Shape.{Shape}
 use Rattle.gta_pinned.specs.Shapes.{AreShapes}
 use Rattle.gta_pinned.proofs.ListsLemmas.{AreShapes-alone}

@@ -1,7 +1,5 @@
-use Rattle.std.proofs.Common.{arith, subst, List}
-use Rattle.ws2s_core.specs.Nodes.{AddsAtMost}
-use Rattle.gta_pinned.specs.declared.shapes.Shape.{Shape}
-use Rattle.gta_pinned.proofs.ShapesLemmas.{AreListed-insert, Adds-insert, IsStateOf-place}
+use Rattle.std.proofs.Common.{arith}
+use Rattle.gta_pinned.proofs.ShapesLemmas.{AreListed-insert}
 use Rattle.gta_pinned.proofs.shapes.Shapes.state.Goals as goal
 
 pub invariant_of-self-2 : goal.invariant_of-self-2
