@@ -33,9 +33,6 @@ shapes_in-same lists s shapes inside = shapes_in-get (set lists s shapes) s ∙ 
 shapes_in-other : (lists : List (List Shape)) (s i : ℕ) (shapes : List Shape) → i ≢ s → shapes_in (set lists s shapes) i ≡ shapes_in lists i
 shapes_in-other lists s i shapes other = shapes_in-get (set lists s shapes) i ∙ get_or-set_other lists s i shapes [] other ∙ sym (shapes_in-get lists i)
 
-some-shape-is : (x y : Shape) → x ≡ y → ◌≡◌ {A = Option Shape} (Some x) (Some y)
-some-shape-is x y e = ap (λ (z : Shape). let o : Option Shape = Some z in o) e
-
 -- a list to which a shape may have come
 adds-kept : (old new : List Shape) (shape : Shape) → AddsAtMost old shape new → (k : ℕ) (x : Shape) → slice_get old k ≡ Some x → slice_get new k ≡ Some x
 adds-kept old new shape (inl same) k x at = ap (λ (xs : List Shape). slice_get xs k) same ∙ at
@@ -223,8 +220,9 @@ module _ (nodes : List TreeNode) (tree : IsTree nodes) where
             right = is.right ∙ sym (child-push states q last node.right (omega arith) (λ j c. child-before nodes tree last j node at (inr c)));
             tells = is.tells;
           }) in
-          subst (λ (n : TreeNode). IsNodeState new tracks (shapes_in changed (slice_index spaces k)) (states ++ q ∷ []) n (slice_index (states ++ q ∷ []) k)) same
-          (subst (λ (m : ℕ). IsNodeState new tracks (shapes_in changed (slice_index spaces m)) (states ++ q ∷ []) node (slice_index (states ++ q ∷ []) m)) e whole)
+          let more = states ++ q ∷ [] in
+          subst (λ (n : TreeNode). IsNodeState new tracks (shapes_in changed (slice_index spaces k)) more n (slice_index more k)) same
+          (subst (λ (m : ℕ). IsNodeState new tracks (shapes_in changed (slice_index spaces m)) more node (slice_index more m)) e whole)
           )
     ];
   }
@@ -272,6 +270,8 @@ AreShapes-kept g old new keeps tracks lists shapes = record {
 pub AreOfTree-kept : (g : Spaces) (old new : Contents) → Keeps old new → (tracks : List Track) (nodes : List TreeNode) (lists : List (List Shape)) (root : ℕ) →
     AreOfTree g old tracks nodes lists root → AreOfTree g new tracks nodes lists root
 AreOfTree-kept g old new keeps tracks nodes lists root of_tree = record {
+  guide = of_tree.guide;
+  tree = of_tree.tree;
   rising = of_tree.rising;
   are_rising = of_tree.are_rising;
   shapes = AreShapes-kept g old new keeps of_tree.rising lists of_tree.shapes;

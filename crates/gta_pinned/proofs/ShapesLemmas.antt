@@ -41,16 +41,19 @@ any-there (x ∷ xs) shape (suc k) at = elim (cases_Bool (same_shape shape x)) [
   | inr other ↦ ap (λ (b : Bool). b || list_any (same_shape shape) xs) other ∙ any-there xs shape k at
 ]
 
+some-same : (x y : Shape) → x ≡ y → ◌≡◌ {A = Option Shape} (Some y) (Some x)
+some-same x y e = ap (λ (s : Shape). let o : Option Shape = Some s in o) (sym e)
+
 AreListed-push : (old : List Shape) (shape : Shape) → AreListed old → list_any (same_shape shape) old ≡ false → length old + 1 < 2 ^ 31 →
     AreListed (old ++ shape ∷ [])
 AreListed-push old shape listed absent room = record {
   once = λ i j other at_i at_j. elim (slice_get-push old shape other i at_i) [
     | inl before_i ↦ elim (slice_get-push old shape other j at_j) [
       | inl before_j ↦ listed.once i j other before_i before_j
-      | inr last_j ↦ absurd (false≢true (sym absent ∙ any-there old shape i (before_i ∙ ap (λ (s : Shape). let o : Option Shape = Some s in o) (sym last_j.1))))
+      | inr last_j ↦ absurd (false≢true (sym absent ∙ any-there old shape i (before_i ∙ some-same shape other last_j.1)))
     ]
     | inr last_i ↦ elim (slice_get-push old shape other j at_j) [
-      | inl before_j ↦ absurd (false≢true (sym absent ∙ any-there old shape j (before_j ∙ ap (λ (s : Shape). let o : Option Shape = Some s in o) (sym last_i.1))))
+      | inl before_j ↦ absurd (false≢true (sym absent ∙ any-there old shape j (before_j ∙ some-same shape other last_i.1)))
       | inr last_j ↦ last_i.0 ∙ sym last_j.0
     ]
   ];

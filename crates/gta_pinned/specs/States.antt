@@ -2,9 +2,10 @@
 use Rattle.std.specs.Prelude.{◌≡◌, ℕ, ◌<◌, ◌↔◌, List, length, Contains, slice_get, slice_index, Option, Some, None}
 use Rattle.std.specs.List.Sorted.{IsStrictlyIncreasing}
 use Rattle.bdd_nodes.specs.Shelf.{Contents}
-use Rattle.gta_theory.specs.Guides.{Spaces}
+use Rattle.gta_theory.specs.Guides.{Spaces, IsGuide}
 use Rattle.ws2s_core.specs.declared.track.Track.{Track}
 use Rattle.ws2s_core.specs.declared.label_tree.TreeNode.{TreeNode}
+use Rattle.ws2s_core.specs.LabelTrees.{IsTree}
 use Rattle.ws2s_theory.specs.Trees.{label_of, last_place}
 use Rattle.gta_core.specs.Accepting.{AreSpacesFrom}
 use Rattle.gta_pinned.specs.declared.shapes.Shape.{Shape}
@@ -34,9 +35,11 @@ pub record AreRising (tracks : List Track) (rising : List ℕ) : Type 0 where
   pub rises : IsStrictlyIncreasing rising
   pub same : (t : ℕ) → Contains rising t ↔ ((track : Track) × Contains tracks track × (track.0 ≡ t))
 
--- the shapes are those of the tree's subtrees on the tracks, and the state is that of the whole tree
+-- over a guide, the shapes are those of the tree's subtrees on the tracks, and the state is that of the whole tree
 pub record AreOfTree (g : Spaces) (shelf : Contents) (tracks : List Track) (nodes : List TreeNode) (lists : List (List Shape)) (root : ℕ) :
     Type 0 where
+  pub guide : IsGuide g
+  pub tree : IsTree nodes
   pub rising : List ℕ
   pub are_rising : AreRising tracks rising
   pub shapes : AreShapes g shelf rising lists

@@ -16,11 +16,15 @@ use plain_data::Items;
 use std::alloc::Global;
 use ws2s_core::Guide;
 
+/// The most roots that a space may have for each node of the shelf's limit: they stand outside the shelf.
+const ROOTS_A_NODE: usize = 16;
+
 /// The parts of all spaces.
 pub(crate) fn parts(
     alloc: Global,
     g: &Guide,
     shapes: &Vec<Shapes>,
+    limit: u32,
     shelf: &mut Shelf,
 ) -> Result<SpacePartList, Stop>
     requires shelf { IsShelf shelf.old }
@@ -32,18 +36,19 @@ pub(crate) fn parts(
 {
     let mut spaces = Items::new(alloc);
     for space in 0..g.spaces() {
-        let part = part_in(alloc, g, shapes, space, shelf)?;
+        let part = part_in(alloc, g, shapes, space, limit, shelf)?;
         spaces.push(part)?;
     }
     Ok(spaces)
 }
 
-/// The part of a space.
+/// The part of a space. `Limit` also where it would have too many roots.
 fn part_in(
     alloc: Global,
     g: &Guide,
     shapes: &Vec<Shapes>,
     space: u32,
+    limit: u32,
     shelf: &mut Shelf,
 ) -> Result<SpacePart, Stop>
     requires shelf { IsShelf shelf.old }
@@ -56,6 +61,9 @@ fn part_in(
     let here = &shapes[space as usize];
     let height = shapes[left as usize].len() + 1;
     let width = shapes[right as usize].len() + 1;
+    if height * width > ROOTS_A_NODE * limit as usize {
+        return Err(Stop::Limit);
+    }
     let roots = roots_of(alloc, here.as_slice(), height, width, shelf)?;
     Ok(SpacePart {
         states: here.len() as u32 + 1,

@@ -23,8 +23,9 @@ use ws2s_core::{Guide, LabelTree, TrackList};
 ///
 /// # Errors
 ///
-/// `Limit` where the shelf has no room for a node. Want of memory, also where a space has more shapes than there are state
-/// numbers, or the roots are more than a `u32` counts. After a stop no table is left.
+/// `Limit` where the shelf has no room for a node, or where the table of a space would have more than 16 roots for each node of
+/// the limit. Want of memory, also where a space has more shapes than there are state numbers, or the roots are more than a
+/// `u32` counts. After a stop no table is left.
 pub fn pinned(
     alloc: Global,
     g: &Guide,
@@ -44,10 +45,9 @@ pub fn pinned(
     ensures same_limit { limit_of shelf.new ≡ limit_of shelf.old }
     ensures shelf { IsShelf shelf.new }
 {
-    // Only for their clauses `shelf`, `guide` and `inside`.
-    let _ = (shelf.count(), g.children(0), tree.nodes().len());
+    let limit = shelf.limit();
     let made = shapes_of(alloc, g, tree, tracks, shelf)?;
-    let spaces = parts(alloc, g, &made.shapes, shelf)?;
+    let spaces = parts(alloc, g, &made.shapes, limit, shelf)?;
     let accepting = only(alloc, made.root, made.shapes[0].len() as u32 + 1)?;
     let auto = Auto::build(alloc, g, spaces, accepting, shelf)?;
     Ok(auto)

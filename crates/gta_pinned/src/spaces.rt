@@ -1,6 +1,7 @@
 //! The spaces in which the nodes of a tree stand.
 
 ghost use Rattle.std.specs.Prelude.{◌≡◌, ◌<◌, IfSome, IfOk, vec_len};
+ghost use Rattle.gta_theory.specs.Guides.{IsGuide};
 ghost use Rattle.ws2s_core.specs.LabelTrees.{IsTree};
 ghost use Rattle.gta_core.specs.Accepting.{with_space, AreSpacesFrom};
 
@@ -10,11 +11,10 @@ use ws2s_core::{Guide, TreeNode};
 
 /// The space of each node: children have those of their parents' children.
 pub(crate) fn spaces_of(alloc: Global, g: &Guide, nodes: &[TreeNode]) -> Result<Vec<u32>, NoMemory>
-    requires { IsTree nodes.now }
+    requires guide { IsGuide g.now }
+    requires tree { IsTree nodes.now }
     ensures { IfOk result (λ spaces. AreSpacesFrom g.now nodes.now 0 spaces.items) }
 {
-    // Only for its clause `guide`.
-    let _ = g.spaces();
     let mut spaces = vec![in alloc; 0; nodes.len()]?;
     for k in (0..nodes.len()).rev() {
         let node = &nodes[k];

@@ -33,15 +33,14 @@ pub(crate) fn shapes_of(
     tracks: &TrackList,
     shelf: &mut Shelf,
 ) -> Result<TreeShapes, Stop>
-    requires shelf { IsShelf shelf.old }
-    requires guide { IsGuide g.now }
+    requires { IsShelf shelf.old }
     ensures shapes { IfOk result (λ made. AreOfTree g.now shelf.new tracks.now tree.now made.shapes.items made.root) }
     ensures makes { Makes shelf.old shelf.new }
 {
     let nodes = tree.nodes();
     let rising = rising_of(alloc, tracks)?;
-    let spaces = spaces_of(alloc, g, nodes)?;
     let mut shapes = empty_shapes(alloc, g, &rising, shelf)?;
+    let spaces = spaces_of(alloc, g, nodes)?;
     let states = states_of(alloc, g, nodes, &spaces, &rising, &mut shapes, shelf)?;
     let root = match states.last() {
         Some(state) => *state,
@@ -61,6 +60,7 @@ fn empty_shapes(
     requires rises { IsStrictlyIncreasing rising.now }
     ensures shapes { IfOk result (λ shapes. AreShapes g.now shelf.new rising.now shapes.items) }
     ensures makes { Makes shelf.old shelf.new }
+    ensures guide { OnOk result (IsGuide g.now) }
 {
     let test = telling(rising, &[], shelf)?;
     let empty = Shape {

@@ -12,12 +12,12 @@ use Rattle.gta_pinned.proofs.pinning.pinned.Goals as goal
 pub parts-requires-clause-usable : goal.parts-requires-clause-usable
 parts-requires-clause-usable c =
     let of_tree = c.in_ok-made.ensures.shapes in
-    AreAllUsable-shapes c.args.g.now c.shapes_of.new.shelf of_tree.rising c.in_ok-made.made.shapes.items c.children.ensures.guide of_tree.shapes
+    AreAllUsable-shapes c.args.g.now c.shapes_of.new.shelf of_tree.rising c.in_ok-made.made.shapes.items c.in_ok-made.ensures.shapes.guide of_tree.shapes
 
 pub build-requires : goal.build-requires
 build-requires c =
     let g = c.args.g.now in
-    let guide = c.children.ensures.guide in
+    let guide = c.in_ok-made.ensures.shapes.guide in
     let shelf = c.parts.new.shelf in
     let lists = c.in_ok-made.made.shapes.items in
     let root = c.in_ok-made.made.root in
@@ -34,10 +34,10 @@ build-requires c =
 pub returns-clause-accepts : goal.returns-clause-accepts
 returns-clause-accepts c = λ n a covers.
     let g = c.args.g.now in
-    let guide = c.children.ensures.guide in
+    let guide = c.in_ok-made.ensures.shapes.guide in
     let shelf = c.parts.new.shelf in
     let nodes = c.args.tree.now in
-    let tree : IsTree nodes = c.nodes.ensures.inside in
+    let tree : IsTree nodes = c.in_ok-made.ensures.shapes.tree in
     let lists = c.in_ok-made.made.shapes.items in
     let root = c.in_ok-made.made.root in
     let was = c.in_ok-made.ensures.shapes in

@@ -10,7 +10,7 @@ pub loop-k-init : goal.loop-k-init
 loop-k-init c =
     subst (λ (xs : List ℕ). AreSpacesFrom c.args.g.now c.args.nodes.now (length c.args.nodes.now) xs)
     (sym (c.in_ok-spaces.ensures.items_if_clones_equal (λ y h. h)))
-    (AreSpacesFrom-start c.args.g.now c.spaces.ensures.guide c.args.nodes.now c.requires)
+    (AreSpacesFrom-start c.args.g.now c.requires.guide c.args.nodes.now c.requires.tree)
 
 pub put-requires : goal.put-requires
 put-requires c =
@@ -19,7 +19,7 @@ put-requires c =
     let node = c.index-nodes-k.result in
     let at : slice_get nodes k ≡ Some node = slice_get_read nodes (length nodes) k node refl (omega arith) c.index-nodes-k.is in
     let fits : k ≤ vec_len c.loop-k.spaces = (let v = c.loop-k.spaces.ok.0 in let m = c.loop-k.invariant.many in omega arith) in
-    IfSome-less node.left k _ fits (c.requires.left_before k node at)
+    IfSome-less node.left k _ fits (c.requires.tree.left_before k node at)
 
 pub put-requires-in-loop-k : goal.put-requires-in-loop-k
 put-requires-in-loop-k c =
@@ -30,13 +30,13 @@ put-requires-in-loop-k c =
     let fits : k ≤ vec_len c.put.new.spaces = (let v = c.put.new.spaces.ok.0 in let m = c.loop-k.invariant.many in
     let e = ap (λ (xs : List ℕ). length xs) c.put.ensures in
     omega (arith, length-with c.loop-k.spaces.items node.left c.unwrap_or-left.result.0)) in
-    IfSome-less node.right k _ fits (c.requires.right_before k node at)
+    IfSome-less node.right k _ fits (c.requires.tree.right_before k node at)
 
 pub loop-k-preserved : goal.loop-k-preserved
 loop-k-preserved c =
     let g = c.args.g.now in
-    let guide = c.spaces.ensures.guide in
-    let tree = c.requires in
+    let guide = c.requires.guide in
+    let tree = c.requires.tree in
     let k = c.loop-k.k - 1 in
     let here : c.loop-k.k ≡ suc k = omega arith in
     let nodes = c.args.nodes.now in
