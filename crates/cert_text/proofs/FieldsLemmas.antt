@@ -1,18 +1,17 @@
 -- Fields: what is read of one is spelled so, and what is spelled so is read.
-use Rattle.std.proofs.Common.{◌≡◌, ℕ, zero, suc, ◌+◌, ◌<◌, ◌≤◌, ◌==◌, not, Bool, true, false, cond, List, [], ◌∷◌, ◌++◌, length, Option, Some, None, ◌⊎◌, inl, inr}
-use Rattle.std.proofs.Common.{refl, sym, ap, ◌∙◌, arith, subst, codes, length-append, eqb-true}
+use Rattle.std.proofs.Common.{◌≡◌, ℕ, zero, suc, ◌≤◌, ◌==◌, Bool, true, false, cond, List, [], ◌∷◌, ◌++◌, length, Option, Some, None, ◌⊎◌, inl, inr}
+use Rattle.std.proofs.Common.{refl, ap, ◌∙◌, arith, subst, codes, length-append, eqb-true}
 use Rattle.std.specs.Option.{option_map}
 use Rattle.std.specs.Fmt.{decimal}
 use Rattle.std.specs.Str.{bytes_eq}
 use Rattle.std.proofs.lemmas.Bool.{and_parts, false≢true}
-use Rattle.std.proofs.lemmas.List.{append-nil}
-use Rattle.std.proofs.Common.{append_assoc}
 use Rattle.cert_text.specs.declared.line.Way.{Way}
 use Rattle.cert_text.specs.declared.line.Way.TheVariants as way
 use Rattle.cert_text.specs.declared.line.Target.{Target}
 use Rattle.cert_text.specs.declared.line.Target.TheVariants as target
 use Rattle.cert_text.specs.Spelling.{number_text, numbers_texts, joined, way_text, target_text, bit_text, IsNumber, AreNumbers, IsTarget}
-use Rattle.cert_text.specs.Reading.{◌>>=◌, next_word, number_of, way_of, target_of, bit_of, number_next, way_next, target_next, bit_next, numbers_in, numbers_of}
+use Rattle.cert_text.specs.Reading.{◌>>=◌, next_word, number_of, way_of, target_of, bit_of}
+use Rattle.cert_text.specs.Reading.{number_next, way_next, target_next, bit_next, numbers_in, numbers_of}
 use Rattle.cert_text.proofs.WordsLemmas.{lacks, lacks-head, is_break, next_word-word, next_word-whole}
 use Rattle.cert_text.proofs.NumbersLemmas.{decimal-lacks, number_of-decimal, decimal-number_of}
 

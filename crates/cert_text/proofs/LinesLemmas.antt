@@ -1,23 +1,20 @@
 -- Lines: what is read of one is spelled so.
-use Rattle.std.proofs.Common.{◌≡◌, ℕ, ◌+◌, ◌==◌, ◌⊎◌, inl, inr, Bool, true, false, cond, List, [], ◌∷◌, ◌++◌, Option, Some, None}
+use Rattle.std.proofs.Common.{◌≡◌, ℕ, Bool, true, false, cond, List, [], ◌∷◌, ◌++◌, Option, Some, None}
 use Rattle.std.proofs.Common.{refl, sym, ap, ◌∙◌, subst, codes, append_assoc}
-use Rattle.std.specs.Option.{option_map}
 use Rattle.std.specs.Str.{bytes_eq}
-use Rattle.std.proofs.lemmas.List.{append-nil}
 use Rattle.cert_text.specs.declared.line.Way.{Way}
-use Rattle.cert_text.specs.declared.line.Way.TheVariants as way
 use Rattle.cert_text.specs.declared.line.Target.{Target}
-use Rattle.cert_text.specs.declared.line.Target.TheVariants as target
 use Rattle.cert_text.specs.declared.line.Line.{Line}
 use Rattle.cert_text.specs.declared.line.Line.TheVariants as line
-use Rattle.cert_text.specs.Spelling.{number_text, way_text, target_text, bit_text, joined, word_of, fields_of, line_text, IsNumber, AreNumbers, IsTarget, IsLine}
-use Rattle.cert_text.specs.Reading.{◌>>=◌, cut_word, number_next, way_next, target_next, bit_next, numbers_of, ended, certificate_line, triple_line, section_line}
+use Rattle.cert_text.specs.Spelling.{number_text, way_text, target_text, bit_text, joined, word_of}
+use Rattle.cert_text.specs.Spelling.{fields_of, line_text, IsNumber, AreNumbers, IsTarget, IsLine}
+use Rattle.cert_text.specs.Reading.{◌>>=◌, cut_word, number_next, way_next, target_next}
+use Rattle.cert_text.specs.Reading.{bit_next, numbers_of, ended, certificate_line, triple_line, section_line}
 use Rattle.cert_text.specs.Reading.{and_line, ex_line, space_line, left_line, right_line, node_line, root_line, accept_line, pair_line, start_line}
 use Rattle.cert_text.specs.Reading.{settle_line, set_line, heading_line, step_line, table_line, listing_line, line_of, cut_line, line_at}
-use Rattle.cert_text.proofs.WordsLemmas.{lacks, lacks-append, is_break, cut_word-word, cut_word-whole, cut_line-line, cut_line-whole}
-use Rattle.cert_text.proofs.NumbersLemmas.{decimal-lacks}
-use Rattle.cert_text.proofs.FieldsLemmas.{bind-some, map-some, eq-is, IsLeft, number-reads, number-whole, way-reads, way-whole, bit-reads, bit-whole}
-use Rattle.cert_text.proofs.FieldsLemmas.{target-reads, target-whole, numbers-break, numbers-read, numbers-whole}
+use Rattle.cert_text.proofs.WordsLemmas.{cut_word-whole, cut_line-whole}
+use Rattle.cert_text.proofs.FieldsLemmas.{bind-some, map-some, eq-is, number-whole, way-whole, bit-whole}
+use Rattle.cert_text.proofs.FieldsLemmas.{target-whole, numbers-whole}
 use Rattle.cert_text.proofs.FieldsLemmas.{numbers_text}
 
 -- ---- what is read is spelled so
@@ -111,7 +108,8 @@ section-told bytes m e =
     let done = ended-some r_parts (line.Section (record { way = v_way; parts = v_parts })) m e_parts in
     let from_parts : r_way ≡ number_text v_parts ++ ([]) = at_parts ∙ on (number_text v_parts) r_parts ([]) done.0 in
     let from_way : bytes ≡ way_text v_way ++ (number_text v_parts ++ ([])) = at_way ∙ on (way_text v_way) r_way (number_text v_parts ++ ([])) from_parts in
-    told (codes "section") bytes (line.Section (record { way = v_way; parts = v_parts })) m done.1 (record { is_line = is_parts; word_is = refl; fields_are = from_way })))
+    told (codes "section") bytes (line.Section (record { way = v_way; parts = v_parts })) m done.1
+    (record { is_line = is_parts; word_is = refl; fields_are = from_way })))
 
 and-told : (bytes : List ℕ) (m : Line) → and_line bytes ≡ Some m → IsTold (codes "and") bytes m
 unfolding and_line
@@ -137,9 +135,16 @@ space-told bytes m e =
     number-then r_states _ m (IsTold (codes "space") bytes m) e_states (λ v_initial r_initial is_initial at_initial e_initial.
     let done = ended-some r_initial (line.Space (record { space = v_space; states = v_states; initial = v_initial })) m e_initial in
     let from_initial : r_states ≡ number_text v_initial ++ ([]) = at_initial ∙ on (number_text v_initial) r_initial ([]) done.0 in
-    let from_states : r_space ≡ number_text v_states ++ (number_text v_initial ++ ([])) = at_states ∙ on (number_text v_states) r_states (number_text v_initial ++ ([])) from_initial in
-    let from_space : bytes ≡ number_text v_space ++ (number_text v_states ++ (number_text v_initial ++ ([]))) = at_space ∙ on (number_text v_space) r_space (number_text v_states ++ (number_text v_initial ++ ([]))) from_states in
-    told (codes "space") bytes (line.Space (record { space = v_space; states = v_states; initial = v_initial })) m done.1 (record { is_line = (is_space, is_states, is_initial); word_is = refl; fields_are = from_space }))))
+    let from_states : r_space ≡ number_text v_states ++ (number_text v_initial ++ ([])) =
+    at_states ∙ on (number_text v_states) r_states (number_text v_initial ++ ([])) from_initial in
+    let from_space : bytes ≡ number_text v_space ++ (number_text v_states ++ (number_text v_initial ++ ([]))) =
+    at_space ∙ on (number_text v_space) r_space (number_text v_states ++ (number_text v_initial ++ ([]))) from_states in
+    told (codes "space") bytes (line.Space (record { space = v_space; states = v_states; initial = v_initial })) m done.1 (record {
+      is_line =
+          (is_space, is_states, is_initial);
+      word_is = refl;
+      fields_are = from_space;
+    }))))
 
 left-told : (bytes : List ℕ) (m : Line) → left_line bytes ≡ Some m → IsTold (codes "left") bytes m
 unfolding left_line
@@ -147,8 +152,14 @@ left-told bytes m e =
     number-then bytes _ m (IsTold (codes "left") bytes m) e (λ v_space r_space is_space at_space e_space.
     numbers-then r_space _ m (IsTold (codes "left") bytes m) e_space (λ v_classes is_classes at_classes e_classes.
     let same : line.Left (record { space = v_space; classes = v_classes }) ≡ m = cc in
-    let from_space : bytes ≡ number_text v_space ++ (numbers_text v_classes) = at_space ∙ on (number_text v_space) r_space (numbers_text v_classes) at_classes in
-    told (codes "left") bytes (line.Left (record { space = v_space; classes = v_classes })) m same (record { is_line = (is_space, is_classes); word_is = refl; fields_are = from_space })))
+    let from_space : bytes ≡ number_text v_space ++ (numbers_text v_classes) =
+    at_space ∙ on (number_text v_space) r_space (numbers_text v_classes) at_classes in
+    told (codes "left") bytes (line.Left (record { space = v_space; classes = v_classes })) m same (record {
+      is_line =
+          (is_space, is_classes);
+      word_is = refl;
+      fields_are = from_space;
+    })))
 
 right-told : (bytes : List ℕ) (m : Line) → right_line bytes ≡ Some m → IsTold (codes "right") bytes m
 unfolding right_line
@@ -156,8 +167,14 @@ right-told bytes m e =
     number-then bytes _ m (IsTold (codes "right") bytes m) e (λ v_space r_space is_space at_space e_space.
     numbers-then r_space _ m (IsTold (codes "right") bytes m) e_space (λ v_classes is_classes at_classes e_classes.
     let same : line.Right (record { space = v_space; classes = v_classes }) ≡ m = cc in
-    let from_space : bytes ≡ number_text v_space ++ (numbers_text v_classes) = at_space ∙ on (number_text v_space) r_space (numbers_text v_classes) at_classes in
-    told (codes "right") bytes (line.Right (record { space = v_space; classes = v_classes })) m same (record { is_line = (is_space, is_classes); word_is = refl; fields_are = from_space })))
+    let from_space : bytes ≡ number_text v_space ++ (numbers_text v_classes) =
+    at_space ∙ on (number_text v_space) r_space (numbers_text v_classes) at_classes in
+    told (codes "right") bytes (line.Right (record { space = v_space; classes = v_classes })) m same (record {
+      is_line =
+          (is_space, is_classes);
+      word_is = refl;
+      fields_are = from_space;
+    })))
 
 node-told : (bytes : List ℕ) (m : Line) → node_line bytes ≡ Some m → IsTold (codes "node") bytes m
 unfolding node_line
@@ -169,9 +186,16 @@ node-told bytes m e =
     let done = ended-some r_high (line.Node (record { node = v_node; track = v_track; low = v_low; high = v_high })) m e_high in
     let from_high : r_low ≡ target_text v_high ++ ([]) = at_high ∙ on (target_text v_high) r_high ([]) done.0 in
     let from_low : r_track ≡ target_text v_low ++ (target_text v_high ++ ([])) = at_low ∙ on (target_text v_low) r_low (target_text v_high ++ ([])) from_high in
-    let from_track : r_node ≡ number_text v_track ++ (target_text v_low ++ (target_text v_high ++ ([]))) = at_track ∙ on (number_text v_track) r_track (target_text v_low ++ (target_text v_high ++ ([]))) from_low in
-    let from_node : bytes ≡ number_text v_node ++ (number_text v_track ++ (target_text v_low ++ (target_text v_high ++ ([])))) = at_node ∙ on (number_text v_node) r_node (number_text v_track ++ (target_text v_low ++ (target_text v_high ++ ([])))) from_track in
-    told (codes "node") bytes (line.Node (record { node = v_node; track = v_track; low = v_low; high = v_high })) m done.1 (record { is_line = (is_node, is_track, is_low, is_high); word_is = refl; fields_are = from_node })))))
+    let from_track : r_node ≡ number_text v_track ++ (target_text v_low ++ (target_text v_high ++ ([]))) =
+    at_track ∙ on (number_text v_track) r_track (target_text v_low ++ (target_text v_high ++ ([]))) from_low in
+    let from_node : bytes ≡ number_text v_node ++ (number_text v_track ++ (target_text v_low ++ (target_text v_high ++ ([])))) =
+    at_node ∙ on (number_text v_node) r_node (number_text v_track ++ (target_text v_low ++ (target_text v_high ++ ([])))) from_track in
+    told (codes "node") bytes (line.Node (record { node = v_node; track = v_track; low = v_low; high = v_high })) m done.1 (record {
+      is_line =
+          (is_node, is_track, is_low, is_high);
+      word_is = refl;
+      fields_are = from_node;
+    })))))
 
 root-told : (bytes : List ℕ) (m : Line) → root_line bytes ≡ Some m → IsTold (codes "root") bytes m
 unfolding root_line
@@ -182,10 +206,18 @@ root-told bytes m e =
     target-then r_right _ m (IsTold (codes "root") bytes m) e_right (λ v_target r_target is_target at_target e_target.
     let done = ended-some r_target (line.Root (record { space = v_space; left = v_left; right = v_right; target = v_target })) m e_target in
     let from_target : r_right ≡ target_text v_target ++ ([]) = at_target ∙ on (target_text v_target) r_target ([]) done.0 in
-    let from_right : r_left ≡ number_text v_right ++ (target_text v_target ++ ([])) = at_right ∙ on (number_text v_right) r_right (target_text v_target ++ ([])) from_target in
-    let from_left : r_space ≡ number_text v_left ++ (number_text v_right ++ (target_text v_target ++ ([]))) = at_left ∙ on (number_text v_left) r_left (number_text v_right ++ (target_text v_target ++ ([]))) from_right in
-    let from_space : bytes ≡ number_text v_space ++ (number_text v_left ++ (number_text v_right ++ (target_text v_target ++ ([])))) = at_space ∙ on (number_text v_space) r_space (number_text v_left ++ (number_text v_right ++ (target_text v_target ++ ([])))) from_left in
-    told (codes "root") bytes (line.Root (record { space = v_space; left = v_left; right = v_right; target = v_target })) m done.1 (record { is_line = (is_space, is_left, is_right, is_target); word_is = refl; fields_are = from_space })))))
+    let from_right : r_left ≡ number_text v_right ++ (target_text v_target ++ ([])) =
+    at_right ∙ on (number_text v_right) r_right (target_text v_target ++ ([])) from_target in
+    let from_left : r_space ≡ number_text v_left ++ (number_text v_right ++ (target_text v_target ++ ([]))) =
+    at_left ∙ on (number_text v_left) r_left (number_text v_right ++ (target_text v_target ++ ([]))) from_right in
+    let from_space : bytes ≡ number_text v_space ++ (number_text v_left ++ (number_text v_right ++ (target_text v_target ++ ([])))) =
+    at_space ∙ on (number_text v_space) r_space (number_text v_left ++ (number_text v_right ++ (target_text v_target ++ ([])))) from_left in
+    told (codes "root") bytes (line.Root (record { space = v_space; left = v_left; right = v_right; target = v_target })) m done.1 (record {
+      is_line =
+          (is_space, is_left, is_right, is_target);
+      word_is = refl;
+      fields_are = from_space;
+    })))))
 
 pair-told : (bytes : List ℕ) (m : Line) → pair_line bytes ≡ Some m → IsTold (codes "pair") bytes m
 unfolding pair_line
@@ -196,10 +228,18 @@ pair-told bytes m e =
     number-then r_second _ m (IsTold (codes "pair") bytes m) e_second (λ v_state r_state is_state at_state e_state.
     let done = ended-some r_state (line.Pair (record { space = v_space; first = v_first; second = v_second; state = v_state })) m e_state in
     let from_state : r_second ≡ number_text v_state ++ ([]) = at_state ∙ on (number_text v_state) r_state ([]) done.0 in
-    let from_second : r_first ≡ number_text v_second ++ (number_text v_state ++ ([])) = at_second ∙ on (number_text v_second) r_second (number_text v_state ++ ([])) from_state in
-    let from_first : r_space ≡ number_text v_first ++ (number_text v_second ++ (number_text v_state ++ ([]))) = at_first ∙ on (number_text v_first) r_first (number_text v_second ++ (number_text v_state ++ ([]))) from_second in
-    let from_space : bytes ≡ number_text v_space ++ (number_text v_first ++ (number_text v_second ++ (number_text v_state ++ ([])))) = at_space ∙ on (number_text v_space) r_space (number_text v_first ++ (number_text v_second ++ (number_text v_state ++ ([])))) from_first in
-    told (codes "pair") bytes (line.Pair (record { space = v_space; first = v_first; second = v_second; state = v_state })) m done.1 (record { is_line = (is_space, is_first, is_second, is_state); word_is = refl; fields_are = from_space })))))
+    let from_second : r_first ≡ number_text v_second ++ (number_text v_state ++ ([])) =
+    at_second ∙ on (number_text v_second) r_second (number_text v_state ++ ([])) from_state in
+    let from_first : r_space ≡ number_text v_first ++ (number_text v_second ++ (number_text v_state ++ ([]))) =
+    at_first ∙ on (number_text v_first) r_first (number_text v_second ++ (number_text v_state ++ ([]))) from_second in
+    let from_space : bytes ≡ number_text v_space ++ (number_text v_first ++ (number_text v_second ++ (number_text v_state ++ ([])))) =
+    at_space ∙ on (number_text v_space) r_space (number_text v_first ++ (number_text v_second ++ (number_text v_state ++ ([])))) from_first in
+    told (codes "pair") bytes (line.Pair (record { space = v_space; first = v_first; second = v_second; state = v_state })) m done.1 (record {
+      is_line =
+          (is_space, is_first, is_second, is_state);
+      word_is = refl;
+      fields_are = from_space;
+    })))))
 
 start-told : (bytes : List ℕ) (m : Line) → start_line bytes ≡ Some m → IsTold (codes "init") bytes m
 unfolding start_line
@@ -208,8 +248,14 @@ start-told bytes m e =
     number-then r_space _ m (IsTold (codes "init") bytes m) e_space (λ v_state r_state is_state at_state e_state.
     let done = ended-some r_state (line.Start (record { space = v_space; state = v_state })) m e_state in
     let from_state : r_space ≡ number_text v_state ++ ([]) = at_state ∙ on (number_text v_state) r_state ([]) done.0 in
-    let from_space : bytes ≡ number_text v_space ++ (number_text v_state ++ ([])) = at_space ∙ on (number_text v_space) r_space (number_text v_state ++ ([])) from_state in
-    told (codes "init") bytes (line.Start (record { space = v_space; state = v_state })) m done.1 (record { is_line = (is_space, is_state); word_is = refl; fields_are = from_space })))
+    let from_space : bytes ≡ number_text v_space ++ (number_text v_state ++ ([])) =
+    at_space ∙ on (number_text v_space) r_space (number_text v_state ++ ([])) from_state in
+    told (codes "init") bytes (line.Start (record { space = v_space; state = v_state })) m done.1 (record {
+      is_line =
+          (is_space, is_state);
+      word_is = refl;
+      fields_are = from_space;
+    })))
 
 settle-told : (bytes : List ℕ) (m : Line) → settle_line bytes ≡ Some m → IsTold (codes "settle") bytes m
 unfolding settle_line
@@ -219,13 +265,31 @@ settle-told bytes m e =
     number-then r_state _ m (IsTold (codes "settle") bytes m) e_state (λ v_left r_left is_left at_left e_left.
     number-then r_left _ m (IsTold (codes "settle") bytes m) e_left (λ v_right r_right is_right at_right e_right.
     bit-then r_right _ m (IsTold (codes "settle") bytes m) e_right (λ v_has_bound r_has_bound at_has_bound e_has_bound.
-    let done = ended-some r_has_bound (line.Settle (record { space = v_space; state = v_state; left = v_left; right = v_right; has_bound = v_has_bound })) m e_has_bound in
+    let done = ended-some r_has_bound (line.Settle (record {
+      space = v_space;
+      state = v_state;
+      left = v_left;
+      right = v_right;
+      has_bound =
+          v_has_bound;
+    })) m e_has_bound in
     let from_has_bound : r_right ≡ bit_text v_has_bound ++ ([]) = at_has_bound ∙ on (bit_text v_has_bound) r_has_bound ([]) done.0 in
-    let from_right : r_left ≡ number_text v_right ++ (bit_text v_has_bound ++ ([])) = at_right ∙ on (number_text v_right) r_right (bit_text v_has_bound ++ ([])) from_has_bound in
-    let from_left : r_state ≡ number_text v_left ++ (number_text v_right ++ (bit_text v_has_bound ++ ([]))) = at_left ∙ on (number_text v_left) r_left (number_text v_right ++ (bit_text v_has_bound ++ ([]))) from_right in
-    let from_state : r_space ≡ number_text v_state ++ (number_text v_left ++ (number_text v_right ++ (bit_text v_has_bound ++ ([])))) = at_state ∙ on (number_text v_state) r_state (number_text v_left ++ (number_text v_right ++ (bit_text v_has_bound ++ ([])))) from_left in
-    let from_space : bytes ≡ number_text v_space ++ (number_text v_state ++ (number_text v_left ++ (number_text v_right ++ (bit_text v_has_bound ++ ([]))))) = at_space ∙ on (number_text v_space) r_space (number_text v_state ++ (number_text v_left ++ (number_text v_right ++ (bit_text v_has_bound ++ ([]))))) from_state in
-    told (codes "settle") bytes (line.Settle (record { space = v_space; state = v_state; left = v_left; right = v_right; has_bound = v_has_bound })) m done.1 (record { is_line = (is_space, is_state, is_left, is_right); word_is = refl; fields_are = from_space }))))))
+    let from_right : r_left ≡ number_text v_right ++ (bit_text v_has_bound ++ ([])) =
+    at_right ∙ on (number_text v_right) r_right (bit_text v_has_bound ++ ([])) from_has_bound in
+    let from_left : r_state ≡ number_text v_left ++ (number_text v_right ++ (bit_text v_has_bound ++ ([]))) =
+    at_left ∙ on (number_text v_left) r_left (number_text v_right ++ (bit_text v_has_bound ++ ([]))) from_right in
+    let from_state : r_space ≡ number_text v_state ++ (number_text v_left ++ (number_text v_right ++ (bit_text v_has_bound ++ ([])))) =
+    at_state ∙ on (number_text v_state) r_state (number_text v_left ++ (number_text v_right ++ (bit_text v_has_bound ++ ([])))) from_left in
+    let from_space : bytes ≡ number_text v_space ++ (number_text v_state ++ (number_text v_left ++ (number_text v_right ++ (bit_text v_has_bound ++
+    ([]))))) = at_space ∙ on (number_text v_space) r_space (number_text v_state ++ (number_text v_left ++ (number_text v_right ++ (bit_text v_has_bound ++
+    ([]))))) from_state in
+    told (codes "settle") bytes (line.Settle
+    (record { space = v_space; state = v_state; left = v_left; right = v_right; has_bound = v_has_bound })) m done.1 (record {
+      is_line =
+          (is_space, is_state, is_left, is_right);
+      word_is = refl;
+      fields_are = from_space;
+    }))))))
 
 set-told : (bytes : List ℕ) (m : Line) → set_line bytes ≡ Some m → IsTold (codes "set") bytes m
 unfolding set_line
@@ -234,9 +298,16 @@ set-told bytes m e =
     number-then r_space _ m (IsTold (codes "set") bytes m) e_space (λ v_state r_state is_state at_state e_state.
     numbers-then r_state _ m (IsTold (codes "set") bytes m) e_state (λ v_members is_members at_members e_members.
     let same : line.Set (record { space = v_space; state = v_state; members = v_members }) ≡ m = cc in
-    let from_state : r_space ≡ number_text v_state ++ (numbers_text v_members) = at_state ∙ on (number_text v_state) r_state (numbers_text v_members) at_members in
-    let from_space : bytes ≡ number_text v_space ++ (number_text v_state ++ (numbers_text v_members)) = at_space ∙ on (number_text v_space) r_space (number_text v_state ++ (numbers_text v_members)) from_state in
-    told (codes "set") bytes (line.Set (record { space = v_space; state = v_state; members = v_members })) m same (record { is_line = (is_space, is_state, is_members); word_is = refl; fields_are = from_space }))))
+    let from_state : r_space ≡ number_text v_state ++ (numbers_text v_members) =
+    at_state ∙ on (number_text v_state) r_state (numbers_text v_members) at_members in
+    let from_space : bytes ≡ number_text v_space ++ (number_text v_state ++ (numbers_text v_members)) =
+    at_space ∙ on (number_text v_space) r_space (number_text v_state ++ (numbers_text v_members)) from_state in
+    told (codes "set") bytes (line.Set (record { space = v_space; state = v_state; members = v_members })) m same (record {
+      is_line =
+          (is_space, is_state, is_members);
+      word_is = refl;
+      fields_are = from_space;
+    }))))
 
 accept-told : (bytes : List ℕ) (m : Line) → accept_line bytes ≡ Some m → IsTold (codes "accept") bytes m
 unfolding accept_line

@@ -1,33 +1,34 @@
 -- Lines: what is spelled so is read.
-use Rattle.std.proofs.Common.{◌≡◌, ℕ, ◌+◌, ◌==◌, ◌⊎◌, inl, inr, Bool, true, false, cond, List, [], ◌∷◌, ◌++◌, Option, Some, None}
-use Rattle.std.proofs.Common.{refl, sym, ap, ◌∙◌, subst, codes, append_assoc}
+use Rattle.std.proofs.Common.{◌≡◌, ℕ, Bool, true, false, List, [], ◌∷◌, ◌++◌, Option, Some, None}
+use Rattle.std.proofs.Common.{refl, sym, ap, ◌∙◌, codes}
 use Rattle.std.specs.List.{AllByRecursion}
 use Rattle.std.specs.Option.{option_map}
-use Rattle.std.specs.Str.{bytes_eq}
-use Rattle.std.proofs.lemmas.List.{append-nil}
 use Rattle.cert_text.specs.declared.line.Way.{Way}
 use Rattle.cert_text.specs.declared.line.Way.TheVariants as way
 use Rattle.cert_text.specs.declared.line.Target.{Target}
 use Rattle.cert_text.specs.declared.line.Target.TheVariants as target
 use Rattle.cert_text.specs.declared.line.Line.{Line}
 use Rattle.cert_text.specs.declared.line.Line.TheVariants as line
-use Rattle.cert_text.specs.Spelling.{number_text, way_text, target_text, bit_text, joined, word_of, fields_of, line_text, IsNumber, AreNumbers, IsTarget, IsLine}
-use Rattle.cert_text.specs.Reading.{◌>>=◌, cut_word, number_next, way_next, target_next, bit_next, numbers_of, ended, certificate_line, triple_line, section_line}
+use Rattle.cert_text.specs.Spelling.{number_text, way_text, target_text, bit_text, joined, word_of}
+use Rattle.cert_text.specs.Spelling.{fields_of, line_text, IsNumber, AreNumbers, IsTarget, IsLine}
+use Rattle.cert_text.specs.Reading.{◌>>=◌, number_next, way_next, target_next, bit_next, numbers_of, certificate_line, triple_line, section_line}
 use Rattle.cert_text.specs.Reading.{and_line, ex_line, space_line, left_line, right_line, node_line, root_line, accept_line, pair_line, start_line}
-use Rattle.cert_text.specs.Reading.{settle_line, set_line, heading_line, step_line, table_line, listing_line, line_of, cut_line, line_at}
-use Rattle.cert_text.proofs.WordsLemmas.{lacks, lacks-append, is_break, cut_word-word, cut_word-whole, cut_line-line, cut_line-whole}
+use Rattle.cert_text.specs.Reading.{settle_line, set_line, heading_line, step_line, table_line, listing_line, line_of, line_at}
+use Rattle.cert_text.proofs.WordsLemmas.{lacks, lacks-append, is_break, cut_word-word, cut_line-line}
 use Rattle.cert_text.proofs.NumbersLemmas.{decimal-lacks}
-use Rattle.cert_text.proofs.FieldsLemmas.{bind-some, map-some, eq-is, IsLeft, number-reads, number-whole, way-reads, way-whole, bit-reads, bit-whole}
-use Rattle.cert_text.proofs.FieldsLemmas.{target-reads, target-whole, numbers-break, numbers-read, numbers-whole}
+use Rattle.cert_text.proofs.FieldsLemmas.{number-reads, way-reads, bit-reads}
+use Rattle.cert_text.proofs.FieldsLemmas.{target-reads, numbers-break, numbers-read}
 use Rattle.cert_text.proofs.LinesLemmas.{fields_text, spelled-apart}
 use Rattle.cert_text.proofs.FieldsLemmas.{numbers_text}
 
 -- ---- what is spelled so is read
 
-then-number : (n : ℕ) (rest : List ℕ) (f : ℕ × List ℕ → Option Line) → IsNumber n → is_break rest ≡ true → number_next (number_text n ++ rest) >>= f ≡ f (n, rest)
+then-number : (n : ℕ) (rest : List ℕ) (f : ℕ × List ℕ → Option Line) → IsNumber n → is_break rest ≡ true →
+    number_next (number_text n ++ rest) >>= f ≡ f (n, rest)
 then-number n rest f is break = ap (λ o. o >>= f) (number-reads n rest is break)
 
-then-target : (t : Target) (rest : List ℕ) (f : Target × List ℕ → Option Line) → IsTarget t → is_break rest ≡ true → target_next (target_text t ++ rest) >>= f ≡ f (t, rest)
+then-target : (t : Target) (rest : List ℕ) (f : Target × List ℕ → Option Line) → IsTarget t → is_break rest ≡ true →
+    target_next (target_text t ++ rest) >>= f ≡ f (t, rest)
 then-target t rest f is break = ap (λ o. o >>= f) (target-reads t rest is break)
 
 then-way : (w : Way) (rest : List ℕ) (f : Way × List ℕ → Option Line) → is_break rest ≡ true → way_next (way_text w ++ rest) >>= f ≡ f (w, rest)
@@ -77,7 +78,8 @@ ex-read v_k is_k =
     then-number v_k ([]) _ is_k refl
 
 space-read : (v_space : ℕ) (v_states : ℕ) (v_initial : ℕ) → IsNumber v_space → IsNumber v_states → IsNumber v_initial →
-    space_line (number_text v_space ++ (number_text v_states ++ (number_text v_initial ++ ([])))) ≡ Some (line.Space (record { space = v_space; states = v_states; initial = v_initial }))
+    space_line (number_text v_space ++ (number_text v_states ++ (number_text v_initial ++ ([])))) ≡ Some (line.Space
+    (record { space = v_space; states = v_states; initial = v_initial }))
 unfolding space_line
 space-read v_space v_states v_initial is_space is_states is_initial =
     then-number v_space (number_text v_states ++ (number_text v_initial ++ ([]))) _ is_space refl
@@ -99,7 +101,8 @@ right-read v_space v_classes is_space is_classes =
     ∙ all-numbers v_classes _ is_classes
 
 node-read : (v_node : ℕ) (v_track : ℕ) (v_low : Target) (v_high : Target) → IsNumber v_node → IsNumber v_track → IsTarget v_low → IsTarget v_high →
-    node_line (number_text v_node ++ (number_text v_track ++ (target_text v_low ++ (target_text v_high ++ ([]))))) ≡ Some (line.Node (record { node = v_node; track = v_track; low = v_low; high = v_high }))
+    node_line (number_text v_node ++ (number_text v_track ++ (target_text v_low ++ (target_text v_high ++ ([]))))) ≡ Some (line.Node
+    (record { node = v_node; track = v_track; low = v_low; high = v_high }))
 unfolding node_line
 node-read v_node v_track v_low v_high is_node is_track is_low is_high =
     then-number v_node (number_text v_track ++ (target_text v_low ++ (target_text v_high ++ ([])))) _ is_node refl
@@ -108,7 +111,8 @@ node-read v_node v_track v_low v_high is_node is_track is_low is_high =
     ∙ then-target v_high ([]) _ is_high refl
 
 root-read : (v_space : ℕ) (v_left : ℕ) (v_right : ℕ) (v_target : Target) → IsNumber v_space → IsNumber v_left → IsNumber v_right → IsTarget v_target →
-    root_line (number_text v_space ++ (number_text v_left ++ (number_text v_right ++ (target_text v_target ++ ([]))))) ≡ Some (line.Root (record { space = v_space; left = v_left; right = v_right; target = v_target }))
+    root_line (number_text v_space ++ (number_text v_left ++ (number_text v_right ++ (target_text v_target ++ ([]))))) ≡ Some (line.Root
+    (record { space = v_space; left = v_left; right = v_right; target = v_target }))
 unfolding root_line
 root-read v_space v_left v_right v_target is_space is_left is_right is_target =
     then-number v_space (number_text v_left ++ (number_text v_right ++ (target_text v_target ++ ([])))) _ is_space refl
@@ -117,7 +121,8 @@ root-read v_space v_left v_right v_target is_space is_left is_right is_target =
     ∙ then-target v_target ([]) _ is_target refl
 
 pair-read : (v_space : ℕ) (v_first : ℕ) (v_second : ℕ) (v_state : ℕ) → IsNumber v_space → IsNumber v_first → IsNumber v_second → IsNumber v_state →
-    pair_line (number_text v_space ++ (number_text v_first ++ (number_text v_second ++ (number_text v_state ++ ([]))))) ≡ Some (line.Pair (record { space = v_space; first = v_first; second = v_second; state = v_state }))
+    pair_line (number_text v_space ++ (number_text v_first ++ (number_text v_second ++ (number_text v_state ++ ([]))))) ≡ Some (line.Pair
+    (record { space = v_space; first = v_first; second = v_second; state = v_state }))
 unfolding pair_line
 pair-read v_space v_first v_second v_state is_space is_first is_second is_state =
     then-number v_space (number_text v_first ++ (number_text v_second ++ (number_text v_state ++ ([])))) _ is_space refl
@@ -132,8 +137,10 @@ start-read v_space v_state is_space is_state =
     then-number v_space (number_text v_state ++ ([])) _ is_space refl
     ∙ then-number v_state ([]) _ is_state refl
 
-settle-read : (v_space : ℕ) (v_state : ℕ) (v_left : ℕ) (v_right : ℕ) (v_has_bound : Bool) → IsNumber v_space → IsNumber v_state → IsNumber v_left → IsNumber v_right →
-    settle_line (number_text v_space ++ (number_text v_state ++ (number_text v_left ++ (number_text v_right ++ (bit_text v_has_bound ++ ([])))))) ≡ Some (line.Settle (record { space = v_space; state = v_state; left = v_left; right = v_right; has_bound = v_has_bound }))
+settle-read : (v_space : ℕ) (v_state : ℕ) (v_left : ℕ) (v_right : ℕ) (v_has_bound : Bool) → IsNumber v_space → IsNumber v_state → IsNumber v_left →
+    IsNumber v_right →
+    settle_line (number_text v_space ++ (number_text v_state ++ (number_text v_left ++ (number_text v_right ++ (bit_text v_has_bound ++ ([])))))) ≡ Some
+    (line.Settle (record { space = v_space; state = v_state; left = v_left; right = v_right; has_bound = v_has_bound }))
 unfolding settle_line
 settle-read v_space v_state v_left v_right v_has_bound is_space is_state is_left is_right =
     then-number v_space (number_text v_state ++ (number_text v_left ++ (number_text v_right ++ (bit_text v_has_bound ++ ([]))))) _ is_space refl
@@ -143,7 +150,8 @@ settle-read v_space v_state v_left v_right v_has_bound is_space is_state is_left
     ∙ then-bit v_has_bound ([]) _ refl
 
 set-read : (v_space : ℕ) (v_state : ℕ) (v_members : List ℕ) → IsNumber v_space → IsNumber v_state → AreNumbers v_members →
-    set_line (number_text v_space ++ (number_text v_state ++ (numbers_text v_members))) ≡ Some (line.Set (record { space = v_space; state = v_state; members = v_members }))
+    set_line (number_text v_space ++ (number_text v_state ++ (numbers_text v_members))) ≡ Some (line.Set
+    (record { space = v_space; state = v_state; members = v_members }))
 unfolding set_line
 set-read v_space v_state v_members is_space is_state is_members =
     then-number v_space (number_text v_state ++ (numbers_text v_members)) _ is_space refl
@@ -198,7 +206,8 @@ line-read (line.Start l) is =
     by_word (codes "init") (number_text l.space ++ (number_text l.state ++ ([]))) refl refl
     ∙ start-read l.space l.state is.0 is.1
 line-read (line.Settle l) is =
-    by_word (codes "settle") (number_text l.space ++ (number_text l.state ++ (number_text l.left ++ (number_text l.right ++ (bit_text l.has_bound ++ ([])))))) refl refl
+    by_word (codes "settle") (number_text l.space ++ (number_text l.state ++ (number_text l.left ++ (number_text l.right ++ (bit_text l.has_bound ++
+    ([])))))) refl refl
     ∙ settle-read l.space l.state l.left l.right l.has_bound is.0 is.1 is.2 is.3
 line-read (line.Set l) is =
     by_word (codes "set") (number_text l.space ++ (number_text l.state ++ (numbers_text l.members))) refl refl
@@ -239,18 +248,61 @@ fields-lack (line.Triple l) is = texts-lack (fields_of (line.Triple l)) (number-
 fields-lack (line.Section l) is = texts-lack (fields_of (line.Section l)) (way-lacks l.way, (number-lacks l.parts is, tt))
 fields-lack (line.And l) is = texts-lack (fields_of (line.And l)) (number-lacks l is, tt)
 fields-lack (line.Ex l) is = texts-lack (fields_of (line.Ex l)) (number-lacks l is, tt)
-fields-lack (line.Space l) is = texts-lack (fields_of (line.Space l)) (number-lacks l.space is.0, (number-lacks l.states is.1, (number-lacks l.initial is.2, tt)))
+fields-lack (line.Space l) is = texts-lack (fields_of (line.Space l)) (
+  number-lacks l.space is.0,
+  (
+    number-lacks l.states is.1,
+    (number-lacks l.initial is.2, tt),
+  ),
+)
 fields-lack (line.Left l) is =
     lacks-append 10 (number_text l.space) (numbers_text l.classes) (number-lacks l.space is.0) (numbers-lack l.classes is.1)
 fields-lack (line.Right l) is =
     lacks-append 10 (number_text l.space) (numbers_text l.classes) (number-lacks l.space is.0) (numbers-lack l.classes is.1)
-fields-lack (line.Node l) is = texts-lack (fields_of (line.Node l)) (number-lacks l.node is.0, (number-lacks l.track is.1, (target-lacks l.low is.2, (target-lacks l.high is.3, tt))))
-fields-lack (line.Root l) is = texts-lack (fields_of (line.Root l)) (number-lacks l.space is.0, (number-lacks l.left is.1, (number-lacks l.right is.2, (target-lacks l.target is.3, tt))))
-fields-lack (line.Pair l) is = texts-lack (fields_of (line.Pair l)) (number-lacks l.space is.0, (number-lacks l.first is.1, (number-lacks l.second is.2, (number-lacks l.state is.3, tt))))
+fields-lack (line.Node l) is = texts-lack (fields_of (line.Node l)) (
+  number-lacks l.node is.0,
+  (
+    number-lacks l.track is.1,
+    (
+      target-lacks l.low is.2,
+      (target-lacks l.high is.3, tt),
+    ),
+  ),
+)
+fields-lack (line.Root l) is = texts-lack (fields_of (line.Root l)) (
+  number-lacks l.space is.0,
+  (
+    number-lacks l.left is.1,
+    (
+      number-lacks l.right is.2,
+      (target-lacks l.target is.3, tt),
+    ),
+  ),
+)
+fields-lack (line.Pair l) is = texts-lack (fields_of (line.Pair l)) (
+  number-lacks l.space is.0,
+  (
+    number-lacks l.first is.1,
+    (
+      number-lacks l.second is.2,
+      (number-lacks l.state is.3, tt),
+    ),
+  ),
+)
 fields-lack (line.Start l) is = texts-lack (fields_of (line.Start l)) (number-lacks l.space is.0, (number-lacks l.state is.1, tt))
-fields-lack (line.Settle l) is = texts-lack (fields_of (line.Settle l)) (number-lacks l.space is.0, (number-lacks l.state is.1, (number-lacks l.left is.2, (number-lacks l.right is.3, (bit-lacks l.has_bound, tt)))))
+fields-lack (line.Settle l) is = texts-lack (fields_of (line.Settle l)) (
+  number-lacks l.space is.0,
+  (
+    number-lacks l.state is.1,
+    (
+      number-lacks l.left is.2,
+      (number-lacks l.right is.3, (bit-lacks l.has_bound, tt)),
+    ),
+  ),
+)
 fields-lack (line.Set l) is =
-    lacks-append 10 (number_text l.space) (number_text l.state ++ (numbers_text l.members)) (number-lacks l.space is.0) (lacks-append 10 (number_text l.state) (numbers_text l.members) (number-lacks l.state is.1) (numbers-lack l.members is.2))
+    lacks-append 10 (number_text l.space) (number_text l.state ++ (numbers_text l.members)) (number-lacks l.space is.0) (lacks-append 10
+    (number_text l.state) (numbers_text l.members) (number-lacks l.state is.1) (numbers-lack l.members is.2))
 
 word-lacks : (l : Line) → lacks 10 (word_of l) ≡ true
 word-lacks line.Certificate = refl

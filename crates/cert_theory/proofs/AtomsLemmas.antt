@@ -96,7 +96,8 @@ module _ (g : Spaces) (guide : IsGuide g) where
   Recognises-sub_numbers x y = Recognises-numbered g guide sub_number sub_state sub_back (sub_automaton x.0 y.0) (Sub x y) (Recognises-Sub g guide x y)
 
   pub Recognises-single_numbers : (x : Track) → Recognises g (single_numbers x.0) (Single x)
-  Recognises-single_numbers x = Recognises-numbered g guide single_number single_state single_back (single_automaton x.0) (Single x) (Recognises-Single g guide x)
+  Recognises-single_numbers x = Recognises-numbered g guide single_number single_state single_back (single_automaton x.0) (Single x)
+      (Recognises-Single g guide x)
 
   pub Recognises-root_numbers : (x : Track) → Recognises g (root_numbers x.0) (Root x)
   Recognises-root_numbers x = Recognises-numbered g guide root_number root_state root_back (root_automaton x.0) (Root x) (Recognises-Root g guide x)

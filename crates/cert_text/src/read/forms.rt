@@ -5,7 +5,10 @@ ghost use Rattle.cert_text.specs.Reading.{certificate_line, triple_line, section
 ghost use Rattle.cert_text.specs.Reading.{node_line, root_line, accept_line, pair_line, start_line, settle_line, set_line};
 ghost use Rattle.cert_text.specs.Reading.{heading_line, step_line, table_line, listing_line};
 
-use crate::line::{ClassLine, Line, NodeLine, PairLine, RootLine, SectionLine, SetLine, SettleLine, SpaceLine, StartLine};
+use crate::line::{
+    ClassLine, Line, NodeLine, PairLine, RootLine, SectionLine, SetLine, SettleLine, SpaceLine,
+    StartLine,
+};
 use crate::read::fields::{bit_next, ended, number_next, numbers_of, target_next, way_next};
 use std::alloc::{AllocError, Global};
 

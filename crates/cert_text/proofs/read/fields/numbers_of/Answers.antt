@@ -1,5 +1,4 @@
-use Rattle.std.proofs.Common.{◌≡◌, suc, ◌+◌, ◌-◌, length, sym, ◌∙◌, ap, arith}
-use Rattle.cert_text.specs.Reading.{numbers_of}
+use Rattle.std.proofs.Common.{◌+◌, ◌-◌, length, sym, ◌∙◌, arith}
 use Rattle.cert_text.proofs.ListsLemmas.{numbers-start, numbers-done, numbers-bad, numbers-stuck, numbers-more}
 use Rattle.cert_text.proofs.read.fields.numbers_of.Goals as goal
 
@@ -12,7 +11,8 @@ returns-then-is_empty c =
 
 pub returns-in_default : goal.returns-in_default
 returns-in_default c =
-    numbers-bad c.loop.numbers (length c.args.bytes.now - c.loop.counter) c.loop.left.now _ (sym c.in_default.ensures) (sym c.is_empty.ensures ∙ c.if-is_empty.false)
+    numbers-bad c.loop.numbers (length c.args.bytes.now - c.loop.counter) c.loop.left.now _ (sym c.in_default.ensures) (sym c.is_empty.ensures
+    ∙ c.if-is_empty.false)
     c.loop.invariant
 
 pub loop-preserved : goal.loop-preserved

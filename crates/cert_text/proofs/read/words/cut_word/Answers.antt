@@ -1,5 +1,4 @@
-use Rattle.std.proofs.Common.{◌≡◌, ℕ, length, take, drop, ◌-◌, unwrap_or, ap, sym, ◌∙◌}
-use Rattle.cert_text.specs.Reading.{cut_word}
+use Rattle.std.proofs.Common.{◌≡◌, length, take, drop, unwrap_or, ap, ◌∙◌}
 use Rattle.cert_text.proofs.WordsLemmas.{cut_word-is, rest_from, word_end}
 use Rattle.cert_text.proofs.read.words.cut_word.Goals as goal
 
