@@ -6,3 +6,4 @@ pub mod SettledLemmas
 pub mod StartsLemmas
 pub mod WaysLemmas
 pub mod WorkedLemmas
+pub mod WorkedSetsLemmas

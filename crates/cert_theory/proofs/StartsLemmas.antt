@@ -88,7 +88,7 @@ goes s IsMember there same = record {
   is_state = refl;
 }
 
-from-inside : (b : Bool) → sub_number (sub_step inside inside b b) ≡ 0
+pub from-inside : (b : Bool) → sub_number (sub_step inside inside b b) ≡ 0
 from-inside true = refl
 from-inside false = refl
 
