@@ -5,5 +5,5 @@
 mod laws;
 mod nodes;
 
-pub use laws::lines_that_show_leave_no_satisfying_assignment;
+pub use laws::{lines_that_show_leave_no_satisfying_assignment, worked_lines_show_a_contradiction};
 pub use nodes::{NodeFault, NodeTable};
