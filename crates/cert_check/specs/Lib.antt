@@ -1,0 +1,3 @@
+pub mod Nodes
+pub mod Told
+pub mod Worked

@@ -1,0 +1,4 @@
+pub mod Atoms
+pub mod Sections
+pub mod Tables
+pub mod Worked
