@@ -1,8 +1,9 @@
 -- What `judge` and `meet` have written: the reports on the fields, and what was asked for.
 use Rattle.std.proofs.Common.{◌≡◌, ◌∙◌, ◌+◌, ◌-◌, ◌<◌, ◌≤◌, ◌++◌, ℕ, suc, Bool, true, false, List, [], ◌∷◌, length}
-use Rattle.std.proofs.Common.{Option, Some, inl, inr, refl, sym, ap, subst, arith}
+use Rattle.std.proofs.Common.{Result, Option, Some, inl, inr, refl, sym, ap, subst, arith}
 use Rattle.std.proofs.Common.{append_assoc, length-append}
-use Rattle.std.specs.Prelude.{All, slice_get, IfSome, IfNone, None, Bor}
+use Rattle.std.specs.Prelude.{All, slice_get, IfSome, IfNone, None}
+use Rattle.std.specs.Borrow.{Bor}
 use Rattle.std.specs.Option.{option_map}
 use Rattle.std.specs.declared.result.Result.TheVariants as result
 use Rattle.store_text.specs.Lines.{lines_of}
@@ -162,6 +163,10 @@ module _ (limit : ℕ) (program : TypedProgram) (triples : List Triple) (number 
 abbrev pub lines_in : Option (Bor (List ℕ)) → Option (List (List ℕ))
 lines_in part = option_map (λ after. lines_of after.now) part
 
+-- no request, but this fault
+abbrev pub refused_by : RequestFault → Result Request RequestFault
+refused_by fault = result.Err fault
+
 -- a request was found in its lines
 pub part_asked : (triples : ℕ) (part : Option (Bor (List ℕ))) (r : Request) (fault : RequestFault) →
     IfNone part (result.Ok r ≡ result.Err fault) → IfSome part (λ after. IsRequest triples (lines_of after.now) r) →
@@ -172,8 +177,9 @@ part_asked triples (Some after) r fault none some = (lines_of after.now, refl, s
 module _ (limit : ℕ) (program : TypedProgram) (triples : List Triple) where
   -- or a fault
   pub part_refused : (part : Option (Bor (List ℕ))) (fault : RequestFault) →
-      IfNone part (result.Err {A = Request} fault ≡ result.Err (record { line = 0; kind = kind.Missing })) →
-      IfSome part (λ after. IsRequestFault (length triples) (lines_of after.now) fault) → JudgesPart limit program triples (lines_in part) (request_line fault) Text
+      IfNone part (refused_by fault ≡ refused_by (record { line = 0; kind = kind.Missing })) →
+      IfSome part (λ after. IsRequestFault (length triples) (lines_of after.now) fault) →
+      JudgesPart limit program triples (lines_in part) (request_line fault) Text
   part_refused None fault none some =
       let same : fault ≡ record { line = 0; kind = kind.Missing } = cc in
       subst (λ (f : RequestFault). JudgesPart limit program triples None (request_line f) Text) (sym same) judging.no_part

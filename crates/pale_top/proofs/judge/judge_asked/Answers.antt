@@ -15,7 +15,8 @@ use Rattle.pale_top.proofs.judge.judge_asked.Goals as goal
 
 pub check_triple-requires-clause-triple : goal.check_triple-requires-clause-triple
 check_triple-requires-clause-triple g c =
-    there (FitsProgram c.args.whole.now.typed) c.args.whole.now.triples (c.in-Triple.number - 1) c.in-Some.t.now c.requires.triples (sym c.in-Some.ensures.value)
+    there (FitsProgram c.args.whole.now.typed) c.args.whole.now.triples (c.in-Triple.number - 1) c.in-Some.t.now c.requires.triples
+    (sym c.in-Some.ensures.value)
 
 pub returns-in_err-way-in-Triple-clause-err : goal.returns-in_err-way-in-Triple-clause-err
 returns-in_err-way-in-Triple-clause-err g c =
