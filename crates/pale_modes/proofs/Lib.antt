@@ -2,6 +2,6 @@ mod DecidingLemmas
 mod FormattingLemmas
 pub mod GivenLemmas
 pub mod WrittenLemmas
-mod CutLemmas
+pub mod CutLemmas
 pub mod ReplayedLemmas
 mod DecidedLemmas

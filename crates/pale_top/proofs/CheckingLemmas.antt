@@ -26,7 +26,7 @@ use Rattle.program_judge.specs.Reports.{ReportsField, ReportsFields, no_field, R
 use Rattle.program_judge.specs.Reports.{ReportsAll, totalled, ReportsProgram, stopped, judged}
 use Rattle.program_judge.proofs.JoinedLemmas.{field-more, triple-more}
 use Rattle.program_judge.proofs.EndingLemmas.{fields-end, triples-end}
-use Rattle.pale_top.specs.Checking.{WroteFields, behind, inside}
+use Rattle.pale_top.specs.Checking.{WroteFields, after_fields, amid_field}
 
 -- ---- what was written so far begins an output
 
@@ -103,16 +103,16 @@ module _ (limit : ℕ) (types : List TypeEntry) (a : Option (List ℕ)) where
 
   -- behind the report of a field
   pub fields_begin : (i : ℕ) (b : Option (List ℕ)) (ways : List FieldWay) → FieldsWrote limit types a i b ways → WroteFields limit types a b
-  fields_begin i b ways before = behind (take i fields) (drop i fields) ways (sym (take-append-drop i fields)) before
+  fields_begin i b ways before = after_fields (take i fields) (drop i fields) ways (sym (take-append-drop i fields)) before
 
   -- in one
   pub field_begins : (i : ℕ) (f : FieldId) (b c : Option (List ℕ)) (ways : List FieldWay) → i < length fields → f ≡ get_or fields i f →
       FieldsWrote limit types a i b ways → WroteAtMost (ReportsField limit types f) b c → WroteFields limit types a c
   field_begins i f b c ways inside is before (inl same) =
       subst (λ (d : Option (List ℕ)). WroteFields limit types a d) (sym same) (fields_begin i b ways before)
-  field_begins i f b c ways within is before (inr front) =
-      inside (take (i + 1) fields) (drop (i + 1) fields) (before.output ++ front.output) (ways ++ front.status ∷ [])
-      (sym (take-append-drop (i + 1) fields)) (told_next i f before.output front.output ways front.status within is before.allowed front.allowed)
+  field_begins i f b c ways inside is before (inr front) =
+      amid_field (take (i + 1) fields) (drop (i + 1) fields) (before.output ++ front.output) (ways ++ front.status ∷ [])
+      (sym (take-append-drop (i + 1) fields)) (told_next i f before.output front.output ways front.status inside is before.allowed front.allowed)
       (front_of_second a b c before.output front.output before.written front.written)
 
   -- all are reported on
@@ -128,10 +128,10 @@ module _ (limit : ℕ) (program : TypedProgram) (triples : List Triple) (fits : 
 
   -- what was written before a stop among the fields begins a report of the program
   pub fields_cut : (c : Option (List ℕ)) → WroteFields limit program.types a c → WroteAtMost (ReportsProgram limit program triples) a c
-  fields_cut c (behind done rest ways split before) =
+  fields_cut c (after_fields done rest ways split before) =
       whole_begins (ReportsProgram limit program triples) a c before.output before.written
       (fields-end limit program triples fits own done rest split before.output ways before.allowed)
-  fields_cut c (inside done rest lines ways split reports front) =
+  fields_cut c (amid_field done rest lines ways split reports front) =
       let end = fields-end limit program triples fits own done rest split lines ways reports in
       inr (record {
         output = lines ++ end.tail;

@@ -1,5 +1,5 @@
 -- A text that asks for something of its program is answered by what is said of that.
-use Rattle.std.proofs.Common.{◌≡◌, ◌∙◌, ◌⊎◌, inl, inr, ◌<◌, ◌≤◌, ℕ, List, [], ◌∷◌, length, Option, None, Some, drop, refl, sym, ap, subst, arith}
+use Rattle.std.proofs.Common.{◌≡◌, ◌∙◌, ◌⊎◌, ◌<◌, ◌≤◌, ◌++◌, ℕ, suc, List, [], ◌∷◌, length, Option, None, Some, drop, refl, sym, ap, subst, arith}
 use Rattle.std.specs.Prelude.{codes}
 use Rattle.std.proofs.lemmas.Option.{same_Some}
 use Rattle.pale_text.specs.declared.refusal.Refusal.{Refusal}
@@ -72,11 +72,11 @@ not-refused : (triples : ℕ) (lines : List (List ℕ)) (r : Request) (fault : R
 not-refused triples _ r _ (line, is, asks) nothing = absurd (cc)
 not-refused triples _ r _ (line, is, asks) (no_form first more none other) =
     let here : line ≡ first = cc in
-    formless (subst (λ (l : List ℕ). Asks triples l r) here asks)
+    formless r (subst (λ (l : List ℕ). Asks triples l r) here asks)
   where
-    formless : Asks triples first r → ⊥
-    formless (fields same) = none same
-    formless (triple n named some within) = other n named
+    formless : (q : Request) → Asks triples first q → ⊥
+    formless _ (fields same) = none same
+    formless _ (triple n named some within) = other n named
 not-refused triples _ r _ (line, is, asks) (no_triple first more number named over) =
     let here : line ≡ first = cc in
     unknown r (subst (λ (l : List ℕ). Asks triples l r) here asks)
@@ -96,10 +96,10 @@ module _ (laws : Laws) (text : List ℕ) (limit : ℕ) (program : TypedProgram) 
       let same = one_cut text part spells.part after spells.after again spells.cut in
       laws.apart spells.part program triples refusal spells.read (subst (λ (p : List ℕ). IsRefusedAs p refusal) same.0 is)
 
-  told : (lines : List ℕ) (status : Status) → JudgesRequest limit program triples r lines status → JudgesEach limit program triples r lines status
-  told _ _ (judging.stopped _ lines ways reports some) = some_field r lines ways (laws.fields limit program.types lines ways reports) some
-  told _ _ (judging.fields every) = each_field every
-  told _ _ (judging.triple place t lines how every there report) =
+  told : (q : Request) (lines : List ℕ) (status : Status) → JudgesRequest limit program triples q lines status → JudgesEach limit program triples q lines status
+  told _ _ _ (judging.stopped q lines ways reports some) = some_field q lines ways (laws.fields limit program.types lines ways reports) some
+  told _ _ _ (judging.fields every) = each_field every
+  told _ _ _ (judging.triple place t lines how every there report) =
       one_triple place t lines how every there report (laws.triple limit program (suc place) t lines how report)
 
   -- the part behind `---` is the one that is spelled
@@ -114,7 +114,7 @@ module _ (laws : Laws) (text : List ℕ) (limit : ℕ) (program : TypedProgram) 
       let here : ls ≡ lines_of spells.after = cc in
       let asks = subst (λ (l : List (List ℕ)). IsRequest (length triples) l q) here is_request in
       let one = one-asked (length triples) (lines_of spells.after) q r asks spells.asked in
-      told output status (subst (λ (x : Request). JudgesRequest limit program triples x output status) one judges)
+      told r output status (subst (λ (x : Request). JudgesRequest limit program triples x output status) one judges)
 
   behind-cut : (part after : List ℕ) (other : TypedProgram) (others : List Triple) (output : List ℕ) (status : Status) → IsCutAs text part after →
       IsReadAs part other others → JudgesPart limit other others (Some (lines_of after)) output status → JudgesEach limit program triples r output status

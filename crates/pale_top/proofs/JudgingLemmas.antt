@@ -1,8 +1,19 @@
 -- What `judge` and `meet` have written: the reports on the fields, and what was asked for.
 use Rattle.std.proofs.Common.{◌≡◌, ◌∙◌, ◌+◌, ◌-◌, ◌<◌, ◌≤◌, ◌++◌, ℕ, suc, Bool, true, false, List, [], ◌∷◌, length}
-use Rattle.std.proofs.Common.{Option, Some, inl, inr, refl, sym, ap, subst, arith}
+use Rattle.std.proofs.Common.{Result, Option, Some, inl, inr, refl, sym, ap, subst, arith}
 use Rattle.std.proofs.Common.{append_assoc, length-append}
-use Rattle.std.specs.Prelude.{All, slice_get}
+use Rattle.std.specs.Prelude.{All, slice_get, IfSome, IfNone, None}
+use Rattle.std.specs.Borrow.{Bor}
+use Rattle.std.specs.Option.{option_map}
+use Rattle.std.specs.declared.result.Result.TheVariants as result
+use Rattle.store_text.specs.Lines.{lines_of}
+use Rattle.pale_text.specs.declared.refusal.TextStop.{TextStop}
+use Rattle.whole_program.specs.ProgramTexts.{IsReadAs, IsStopOf}
+use Rattle.pale_parts.specs.Parts.{IsCutAs, HasNoCut}
+use Rattle.pale_parts.specs.declared.request.RequestFault.{RequestFault}
+use Rattle.pale_parts.specs.declared.request.RequestKind.TheVariants as kind
+use Rattle.pale_replay.specs.Replaying.{IsReplayStop, uncut_stop, cut_stop}
+use Rattle.pale_modes.specs.Texts.{most_bytes}
 use Rattle.std.specs.List.{list_all}
 use Rattle.store_core.specs.declared.ids.FieldId.{FieldId}
 use Rattle.store_core.specs.Tables.{TypeEntry}
@@ -15,7 +26,7 @@ use Rattle.pale_io.specs.Told.{appended}
 use Rattle.pale_io.specs.Whole.{WritesAll, WritesFront}
 use Rattle.pale_parts.specs.declared.request.Request.{Request}
 use Rattle.pale_parts.specs.declared.request.Request.TheVariants as request
-use Rattle.pale_parts.specs.Requests.{Asks, fields, triple, IsRequest}
+use Rattle.pale_parts.specs.Requests.{Asks, fields, triple, IsRequest, IsRequestFault, request_line}
 use Rattle.pale_modes.specs.declared.status.Status.{Status}
 use Rattle.pale_modes.specs.Written.{Wrote, WroteAtMost}
 use Rattle.pale_modes.proofs.WrittenLemmas.{nothing_written, both_written, front_of_first, first_written, front_of_second}
@@ -24,9 +35,9 @@ use Rattle.program_judge.specs.declared.ways.TripleWay.{TripleWay}
 use Rattle.program_judge.specs.Lines.{stopped_line}
 use Rattle.program_judge.specs.Reports.{pointer_fields, is_functional, stopped_ending, ReportsFields, ReportsTriple}
 use Rattle.program_judge.proofs.EndingLemmas.{fields-more, functional-silent}
-use Rattle.pale_top.specs.Checking.{status_of, WroteFields, behind, inside}
-use Rattle.pale_modes.specs.declared.status.Status.TheVariants.{Good}
-use Rattle.pale_top.specs.Judging.{JudgesRequest, status_of_way}
+use Rattle.pale_top.specs.Checking.{status_of, WroteFields, after_fields, amid_field}
+use Rattle.pale_modes.specs.declared.status.Status.TheVariants.{Good, Text}
+use Rattle.pale_top.specs.Judging.{Judges, JudgesPart, JudgesRequest, status_of_way}
 use Rattle.pale_top.specs.Judging as judging
 
 -- ---- nothing written
@@ -98,10 +109,10 @@ module _ (limit : ℕ) (program : TypedProgram) (Allowed : List ℕ → Status �
 
   pub stop_among_fields : (triples : List Triple) → ProgramFits program → All (FitsProgram program) triples → (c : Option (List ℕ)) →
       WroteFields limit program.types a c → WroteAtMost Allowed a c
-  stop_among_fields triples fits own c (behind done rest ways split before) =
+  stop_among_fields triples fits own c (after_fields done rest ways split before) =
       let (l, all, whole) = fields-more limit program triples fits own done rest split before.output ways before.allowed in
       whole_by c before.output l all before.written whole (list_all is_functional all) refl
-  stop_among_fields triples fits own c (inside done rest lines ways split reports front) =
+  stop_among_fields triples fits own c (amid_field done rest lines ways split reports front) =
       let (l, all, whole) = fields-more limit program triples fits own done rest split lines ways reports in
       front_by c lines l all front whole (list_all is_functional all) refl
 
@@ -145,3 +156,53 @@ module _ (limit : ℕ) (program : TypedProgram) (triples : List Triple) (number 
     allowed = allowed_for front.output front.status front.allowed;
     written = front.written;
   })
+
+-- ---- the part behind `---`
+
+-- its lines, where there is one
+abbrev pub lines_in : Option (Bor (List ℕ)) → Option (List (List ℕ))
+lines_in part = option_map (λ after. lines_of after.now) part
+
+-- no request, but this fault
+abbrev pub refused_by : RequestFault → Result Request RequestFault
+refused_by fault = result.Err fault
+
+-- a request was found in its lines
+pub part_asked : (triples : ℕ) (part : Option (Bor (List ℕ))) (r : Request) (fault : RequestFault) →
+    IfNone part (result.Ok r ≡ result.Err fault) → IfSome part (λ after. IsRequest triples (lines_of after.now) r) →
+    (lines : List (List ℕ)) × (lines_in part ≡ Some lines) × IsRequest triples lines r
+part_asked triples None r fault none some = absurd (cc)
+part_asked triples (Some after) r fault none some = (lines_of after.now, refl, some)
+
+module _ (limit : ℕ) (program : TypedProgram) (triples : List Triple) where
+  -- or a fault
+  pub part_refused : (part : Option (Bor (List ℕ))) (fault : RequestFault) →
+      IfNone part (refused_by fault ≡ refused_by (record { line = 0; kind = kind.Missing })) →
+      IfSome part (λ after. IsRequestFault (length triples) (lines_of after.now) fault) →
+      JudgesPart limit program triples (lines_in part) (request_line fault) Text
+  part_refused None fault none some =
+      let same : fault ≡ record { line = 0; kind = kind.Missing } = cc in
+      subst (λ (f : RequestFault). JudgesPart limit program triples None (request_line f) Text) (sym same) judging.no_part
+  part_refused (Some after) fault none some = judging.no_request (lines_of after.now) fault some
+
+  pub asked_part : (part : Option (Bor (List ℕ))) (lines : List (List ℕ)) (r : Request) → lines_in part ≡ Some lines → IsRequest (length triples) lines r →
+      (output : List ℕ) (status : Status) → JudgesRequest limit program triples r output status →
+      JudgesPart limit program triples (lines_in part) output status
+  asked_part part lines r is asks output status judges =
+      subst (λ (ls : Option (List (List ℕ))). JudgesPart limit program triples ls output status) (sym is) (judging.asked lines r output status asks judges)
+
+-- ---- whole texts
+
+module _ (text front : List ℕ) where
+  pub by_cut : (limit : ℕ) (part : Option (Bor (List ℕ))) → IfSome part (λ after. IsCutAs text front after.now) → IfNone part ((front ≡ text) × HasNoCut text) →
+      length text ≤ most_bytes → (program : TypedProgram) (triples : List Triple) → IsReadAs front program triples → (output : List ℕ) (status : Status) →
+      JudgesPart limit program triples (lines_in part) output status → Judges limit text output status
+  by_cut limit None some none short program triples read output status judges =
+      judging.uncut program triples output status short none.1 (subst (λ (t : List ℕ). IsReadAs t program triples) none.0 read) judges
+  by_cut limit (Some after) some none short program triples read output status judges =
+      judging.cut front after.now program triples output status short some read judges
+
+  pub stop_by_cut : (part : Option (Bor (List ℕ))) → IfSome part (λ after. IsCutAs text front after.now) → IfNone part ((front ≡ text) × HasNoCut text) →
+      (stop : TextStop) → IsStopOf front stop → IsReplayStop text stop
+  stop_by_cut None some none stop is = uncut_stop none.1 (subst (λ (t : List ℕ). IsStopOf t stop) none.0 is)
+  stop_by_cut (Some after) some none stop is = cut_stop front after.now some is

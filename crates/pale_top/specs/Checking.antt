@@ -34,7 +34,8 @@ pub data Checks (limit : ℕ) (text : List ℕ) : List ℕ → Status → Type 0
 
 -- how far reports on fields were written before a stop: those of the first fields, or a front of them
 pub data WroteFields (limit : ℕ) (types : List TypeEntry) (before after : Option (List ℕ)) : Type 0 where
-  behind : (done rest : List FieldId) (ways : List FieldWay) → pointer_fields types ≡ done ++ rest → Wrote (ReportsFields limit types done) before after ways
+  after_fields : (done rest : List FieldId) (ways : List FieldWay) → pointer_fields types ≡ done ++ rest
+      → Wrote (ReportsFields limit types done) before after ways
       → WroteFields limit types before after
-  inside : (done rest : List FieldId) (lines : List ℕ) (ways : List FieldWay) → pointer_fields types ≡ done ++ rest
+  amid_field : (done rest : List FieldId) (lines : List ℕ) (ways : List FieldWay) → pointer_fields types ≡ done ++ rest
       → ReportsFields limit types done lines ways → WritesFront before after lines → WroteFields limit types before after

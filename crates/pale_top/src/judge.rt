@@ -106,9 +106,9 @@ fn judge_request<K: Sink>(
 
 /// What the part behind the line `---` asks for of a program, where there is one.
 fn request_of(part: Option<&[u8]>, triples: usize) -> Result<Request, RequestFault>
-    ensures none { IfNone part (result ≡ Err (record { line = 0; kind = RequestKind.Missing })) }
-    ensures ok { IfSome part (λ after. IfOk result (IsRequest triples (lines_of after.now))) }
-    ensures err { IfSome part (λ after. IfErr result (IsRequestFault triples (lines_of after.now))) }
+    ensures none { IfNone part.entry (result ≡ Err (record { line = 0; kind = RequestKind.Missing })) }
+    ensures ok { IfSome part.entry (λ after. IfOk result (IsRequest triples (lines_of after.now))) }
+    ensures err { IfSome part.entry (λ after. IfErr result (IsRequestFault triples (lines_of after.now))) }
 {
     match part {
         Some(after) => request_in(after, triples),
@@ -131,9 +131,9 @@ fn judge_part<K: Sink>(
     requires limit { IsLimit limit }
     requires program { ProgramFits whole.now.typed }
     requires triples { All (FitsProgram whole.now.typed) whole.now.triples }
-    ensures ok { IfOk result (Wrote (JudgesPart limit whole.now.typed whole.now.triples (option_map (λ after. lines_of after.now) part))
+    ensures ok { IfOk result (Wrote (JudgesPart limit whole.now.typed whole.now.triples (option_map (λ after. lines_of after.now) part.entry))
         (K.written sink.old) (K.written sink.new)) }
-    ensures err { OnErr result (WroteAtMost (JudgesPart limit whole.now.typed whole.now.triples (option_map (λ after. lines_of after.now) part))
+    ensures err { OnErr result (WroteAtMost (JudgesPart limit whole.now.typed whole.now.triples (option_map (λ after. lines_of after.now) part.entry))
         (K.written sink.old) (K.written sink.new)) }
     ensures failed { IsErrOf result WriteStop.Failed → Rose (K.faults sink.old) (K.faults sink.new) }
     ensures kept { K.faults sink.old ≤ K.faults sink.new }

@@ -23,6 +23,14 @@ loop-f-init g c =
       kept = omega arith;
     }
 
+-- nothing was written yet
+pub returns-in_err-fields-clause-err : goal.returns-in_err-fields-clause-err
+returns-in_err-fields-clause-err g c =
+    let a = g.K.Sink.written c.args.sink.now in
+    let limit = limit_of c.args.shelf.now in
+    let types = c.args.whole.now.typed.types in
+    on_err c.from_residual.result (fields_begin limit types a 0 a [] (fields_start limit types a))
+
 pub returns-in_err-way-clause-err : goal.returns-in_err-way-clause-err
 returns-in_err-way-clause-err g c =
     let a = g.K.Sink.written c.args.sink.now in

@@ -27,7 +27,8 @@ returns-in_ok-push_empty-in-Valid-clause-report g c t own is_asking =
     let is = subst (IsJudged c.types-types.result.now c.in-Some.vars.now c.args.asked.now) c.in-Valid.is (c.in_ok-judge.ensures.value functional) in
     report-empty (limit_of c.args.shelf.now) c.args.typed.now c.args.number t own c.types-types.result.now c.types-types.ensures c.in-Some.vars.now vars-at
     c.in-Some-proc.proc.now proc-at c.as_slice-name.result.now c.as_slice-name.ensures c.new-text.result.items c.push_empty.new.text.items
-    c.new-text.ensures.items (c.in_ok-push_empty-in-Valid.ensures ∙ ap (λ (n : ℕ). c.new-text.result.items ++ empty_line c.args.number c.as_slice-name.result.now n) line)
+    c.new-text.ensures.items (c.in_ok-push_empty-in-Valid.ensures
+    ∙ ap (λ (n : ℕ). c.new-text.result.items ++ empty_line c.args.number c.as_slice-name.result.now n) line)
     (subst (IsValid c.types-types.result.now c.in-Some.vars.now) is_asking is)
 
 pub returns-in_ok-extend_from_slice-in-Invalid-clause-report : goal.returns-in_ok-extend_from_slice-in-Invalid-clause-report
@@ -51,6 +52,7 @@ returns-in_ok-push_limit-in-Limit-clause-report g c t own is_asking =
     let line : c.args.asked.now.line ≡ t.line = ap (λ (u : Triple). u.line) is_asking in
     report-limit (limit_of c.args.shelf.now) c.args.typed.now c.args.number t own c.types-types.result.now c.types-types.ensures c.in-Some.vars.now vars-at
     c.in-Some-proc.proc.now proc-at c.as_slice-name.result.now c.as_slice-name.ensures c.new-text.result.items c.push_limit.new.text.items
-    c.new-text.ensures.items (c.in_ok-push_limit-in-Limit.ensures ∙ ap (λ (n : ℕ). c.new-text.result.items ++ limit_line c.args.number c.as_slice-name.result.now n) line)
+    c.new-text.ensures.items (c.in_ok-push_limit-in-Limit.ensures
+    ∙ ap (λ (n : ℕ). c.new-text.result.items ++ limit_line c.args.number c.as_slice-name.result.now n) line)
     (subst (λ (u : Triple). (p : ℕ) → HasTriplePeak c.types-types.result.now c.in-Some.vars.now u p → limit_of c.args.shelf.now < p) is_asking
     (c.judge.ensures.limit (c.in_ok-judge.was ∙ ap (λ (x : Judged). Ok x) c.in-Limit.is)))
