@@ -26,7 +26,7 @@ const MANY_SINGLES: u32 = 3;
 pub(crate) type Context = Option<FormulaId>;
 
 /// The conjunction of conjuncts from the left, as a context: contexts that begin with the same conjuncts begin with the same formula.
-fn conjunction_of(
+pub(crate) fn conjunction_of(
     alloc: Global,
     interner: &mut Interner,
     facts: &mut Facts,
