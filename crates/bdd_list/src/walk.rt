@@ -1,7 +1,7 @@
 //! Going down from each root to its leaves, and up again: a node is listed after its sides. A stack keeps the nodes that
 //! wait, so that no call goes deep.
 
-ghost use Rattle.std.specs.Prelude.{◌≡◌, ◌<◌, ◌+◌, ◌^◌, ◌∷◌, ℕ, List, All, Some, IfOk, length, slice_get, vec_len};
+ghost use Rattle.std.specs.Prelude.{◌≡◌, ◌<◌, ◌+◌, ◌^◌, [], ◌∷◌, ℕ, List, All, Some, IfOk, length, slice_get, vec_len};
 ghost use Rattle.bdd_nodes.specs.declared.node_ref.NodeRef.{NodeRef};
 ghost use Rattle.bdd_nodes.specs.Shelf.{IsShelf, IsValid};
 ghost use Rattle.bdd_list.specs.Listing.{IsListing};
@@ -111,33 +111,34 @@ fn resume(
     }
 }
 
-/// Lists what is under a root, and isn't listed yet.
+/// Lists what is under a root, and isn't listed yet. No node waits before and afterwards.
 fn list_from(
-    alloc: Global,
     shelf: &Shelf,
     roots: &[NodeRef],
     index: usize,
+    stack: &mut Stack<Frame>,
     nodes: &mut Vec<ListedNode>,
     memo: &mut HashMap<NodeRef, Listed>,
 ) -> Result<Listed, AllocError>
     requires shelf { IsShelf shelf.now }
     requires valid { All (IsValid shelf.now) roots.now }
     requires inside { index < length roots.now }
+    requires none { stack.old ≡ [] }
     requires list { IsList shelf.now roots.now nodes.old.items memo.old }
+    ensures none { IfOk result (λ listed. stack.new ≡ []) }
     ensures list { IfOk result (λ listed. IsList shelf.now roots.now nodes.new.items memo.new) }
     ensures lists { IfOk result (λ listed. (root : NodeRef) → slice_get roots.now index ≡ Some root
         → Lists shelf.now nodes.new.items root listed) }
     ensures extends { IfOk result (λ listed. Extends nodes.old.items nodes.new.items) }
 {
-    let mut stack = Stack::new(alloc);
     let root = roots[index];
     let mut turn = Turn::Visit(root);
     loop {
         turn = match turn {
-            Turn::Visit(r) => visit(shelf, memo, &mut stack, r)?,
+            Turn::Visit(r) => visit(shelf, memo, stack, r)?,
             Turn::Done(listed) => match stack.pop() {
                 None => return Ok(listed),
-                Some(frame) => resume(nodes, memo, &mut stack, frame, listed)?,
+                Some(frame) => resume(nodes, memo, stack, frame, listed)?,
             },
         };
     }
@@ -156,9 +157,10 @@ pub fn list_nodes(alloc: Global, shelf: &Shelf, roots: &[NodeRef]) -> Result<Lis
     let _ = shelf.count();
     let mut nodes = Vec::new(alloc);
     let mut memo = HashMap::new(alloc);
-    let mut listed = Items::new(alloc);
+    let mut stack = Stack::new(alloc);
+    let mut listed = Items::from_vec(Vec::with_capacity(alloc, roots.len())?);
     for index in 0..roots.len() {
-        listed.push(list_from(alloc, shelf, roots, index, &mut nodes, &mut memo)?)?;
+        listed.push(list_from(shelf, roots, index, &mut stack, &mut nodes, &mut memo)?)?;
     }
     Ok(Listing {
         nodes: Items::from_vec(nodes),

@@ -1,5 +1,5 @@
 -- Classes that are split by one root of each state.
-use Rattle.std.proofs.Common.{◌≡◌, ℕ, ◌+◌, true, List, [], ◌∷◌, ◌++◌, length, get_or, Option, Some, None, inl, inr}
+use Rattle.std.proofs.Common.{◌≡◌, ℕ, ◌+◌, ◌<◌, true, List, [], ◌∷◌, ◌++◌, length, get_or, Option, Some, None, inl, inr}
 use Rattle.std.proofs.Common.{sym, ◌∙◌, ap, arith, length-append}
 use Rattle.std.specs.Prelude.{slice_get, unwrap_or, option_and_then, nat_eq}
 use Rattle.std.specs.HashMap.{get, Updates}
@@ -91,6 +91,15 @@ module _ (root : ℕ → ℕ → Option NodeRef) (states before : List ℕ) (oth
       ∙ ap (class_with found (had_at before j)) (like other)
       ∙ all.each j r (get_or classes j 0) r_at second
       ∙ sym second
+
+-- one state at most
+pub AreApart-few : (root : ℕ → ℕ → Option NodeRef) (states : List ℕ) → length states < 2 → AreApart root states
+AreApart-few root states few i j q r q_at r_at like =
+    let i_in = slice_get_within states i q q_at in
+    let j_in = slice_get_within states j r r_at in
+    let is : i ≡ j = omega arith in
+    let e : Some q ≡ Some r = sym q_at ∙ ap (slice_get states) is ∙ r_at in
+    cc
 
 -- where each state is the first of its class
 pub AreApart-own : (root : ℕ → ℕ → Option NodeRef) (states : List ℕ) → ShareClasses root states states → AreApart root states

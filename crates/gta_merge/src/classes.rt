@@ -128,7 +128,7 @@ pub(crate) fn classify(
         ones: Items::new(alloc),
         known: HashMap::new(alloc),
     };
-    let mut of = Items::new(alloc);
+    let mut of = Items::from_vec(Vec::with_capacity(alloc, many as usize)?);
     for state in 0..many {
         let class = class_of(
             alloc,

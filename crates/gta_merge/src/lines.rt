@@ -50,7 +50,7 @@ pub(crate) fn line_of(
     ensures line { IfOk result (λ line. map some_root line.items ≡ map (root_beside shelf.now a.now space side state) others.now) }
     ensures valid { IfOk result (λ line. All (IsValid shelf.now) line.items) }
 {
-    let mut line = Vec::new(alloc);
+    let mut line = Vec::with_capacity(alloc, others.len())?;
     for other in others {
         let Some(root) = root_beside(a, shelf, space, side, state, *other) else {
             unreachable!()

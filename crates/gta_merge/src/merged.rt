@@ -182,7 +182,7 @@ fn count_up(alloc: Global, many: usize) -> Result<Items<u32>, NoMemory>
     if many > u32::MAX as usize {
         return Err(AllocError);
     }
-    let mut numbers = Items::new(alloc);
+    let mut numbers = Items::from_vec(Vec::with_capacity(alloc, many)?);
     for number in 0..many as u32 {
         numbers.push(number)?;
     }

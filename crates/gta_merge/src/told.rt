@@ -73,6 +73,9 @@ fn is_side_told(
     requires { All (λ other. All (λ state. IsSome (root_beside shelf.now a.now space side state other)) states.now) others.now }
     ensures { IfOk result (λ told. told ≡ true → AreApart (root_beside shelf.now a.now space side) states.now) }
 {
+    if states.len() < 2 {
+        return Ok(true);
+    }
     let mut classes = Items::new(alloc);
     for place in 0..others.len().min(FEW_ROOTS) {
         let before = classes.as_slice();
@@ -102,7 +105,7 @@ fn split(
     ensures { IfOk result (ShareClasses (root_beside shelf.now a.now space side) states.now) }
 {
     let mut found = HashMap::new(alloc);
-    let mut classes = Items::new(alloc);
+    let mut classes = Items::from_vec(Vec::with_capacity(alloc, states.len())?);
     for place in 0..states.len() {
         let state = states[place];
         let Some(root) = root_beside(a, shelf, space, side, state, other) else {

@@ -41,6 +41,10 @@ pub fn one_a_class(alloc: Global, set: &[u32], classes: &[u32]) -> Result<StateL
     ensures classes { IfOk result (HaveClasses classes.now set.now) }
     ensures inside { IfOk result (λ short. (q : ℕ) → Contains short q → Contains set.now q) }
 {
+    if set.len() < 2 {
+        let same = StateList::from_slice(alloc, set)?;
+        return Ok(same);
+    }
     let mut seen = HashSet::new(alloc);
     let mut short = Items::new(alloc);
     for state in set {

@@ -85,7 +85,7 @@ module _ (old new : List Formula) (h : Extends old new) where
     in_left = Implies-along _ _ _ _ (sym (around-extends old new place h was.here)) (sym (around-extends old new left h was.left_here)) was.in_left;
   }
 
-  IsNegating-extends : (place inner : Place) → IsNegating old place inner → IsNegating new place inner
+  pub IsNegating-extends : (place inner : Place) → IsNegating old place inner → IsNegating new place inner
   IsNegating-extends place inner was = record {
     here = IsPlace-extends old new place h was.here;
     inner_here = IsPlace-extends old new inner h was.inner_here;
@@ -237,6 +237,17 @@ SameUnder-negated a b c d context needed part negation made first second there n
     SameUnder-implied (context_at a context) (context_at b needed) (Not (formula_of a part)) (formula_of d made) implied
     (subst (λ (f : Formula). SameUnder (context_at b needed) f (formula_of d made)) (is ∙ ap Not (at-extends a b part first there))
     (subst (λ (inner : List Formula). SameUnder inner (formula_of c negation) (formula_of d made)) (context-extends b c needed second needed_there) same))
+
+-- a rewriting beside what its context implies
+pub IsSame-beside : (a b c : List Formula) (place : Place) (known : Option FormulaId) (part made : FormulaId) → Extends a b → Extends b c →
+    IsSame a place part → Implies (around a place) (context_at b known) → SameUnder (context_at b known) (formula_of b part) (formula_of c made) →
+    IsThere c made → IsSame c place made
+IsSame-beside a b c place known part made first second on_part implied same there =
+    IsSame-made a c place made (formula_of c made) (Extends-trans a b c first second) on_part.here
+    (SameUnder-trans (around a place) (whole a place) (formula_of a part) (formula_of c made) on_part.same
+    (SameUnder-implied (around a place) (context_at b known) (formula_of a part) (formula_of c made) implied
+    (subst (λ (f : Formula). SameUnder (context_at b known) f (formula_of c made)) (at-extends a b part first on_part.to_there) same)))
+    refl there
 
 pub IsSame-quantified : (a b c : List Formula) (place : Place) (t : Track) (inner : Place) (part whole_part made : FormulaId) → Extends a b → Extends b c →
     IsQuantifying a place t inner → IsSame a inner part → SameUnder (context_at a inner.context) (formula_of a part) (formula_of b whole_part) →

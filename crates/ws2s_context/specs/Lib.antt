@@ -1,4 +1,5 @@
 pub mod Conjuncts
 pub mod Facts
+pub mod Fronting
 pub mod Going
 pub mod Opening

@@ -19,6 +19,13 @@ use ws2s_core::{FormulaId, Interner, Node, Track, TrackList};
 /// How many nodes a conjunct has at most that comes into contexts wherever it stands.
 const MANY_NODES: u32 = 1_000;
 
+/// How many nodes a formula under a quantifier has at most beside which no context is conjoined in the formula of a store: its automaton is
+/// small without it, and that of the context would be multiplied with it for nothing.
+const FEW_QUANTIFIED: u32 = 50;
+
+/// The same of a formula that is negated.
+const FEW_NEGATED: u32 = 10;
+
 /// How far the outer spine is followed.
 const MANY_STEPS: u32 = 100_000;
 
@@ -190,12 +197,18 @@ impl Choice {
         &self,
         alloc: Global,
         interner: &Interner,
+        facts: &Facts,
         id: FormulaId,
     ) -> Result<bool, AllocError> {
         if self.is_whole {
-            return Ok(true);
+            return Ok(facts.size(id) > FEW_QUANTIFIED);
         }
         has_step(alloc, interner, id)
+    }
+
+    /// Whether all of a context is conjoined beside a negation of the formula.
+    pub(crate) fn wants_all(&self, facts: &Facts, id: FormulaId) -> bool {
+        self.is_whole && facts.size(id) > FEW_NEGATED
     }
 
     /// The conjuncts of a context of which is noted where they are conjoined: none where all are conjoined everywhere.

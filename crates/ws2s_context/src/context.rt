@@ -17,7 +17,7 @@ use std::collections::HashSet;
 use ws2s_core::{FormulaId, Interner, Node, Track};
 
 /// How many conjuncts a context has at most.
-const MANY_CONJUNCTS: usize = 128;
+const MANY_CONJUNCTS: usize = 512;
 
 /// How many `Single` atoms come beside a negation at most: more have a state for each set of them.
 const MANY_SINGLES: u32 = 3;
@@ -26,7 +26,7 @@ const MANY_SINGLES: u32 = 3;
 pub(crate) type Context = Option<FormulaId>;
 
 /// The conjunction of conjuncts from the left, as a context: contexts that begin with the same conjuncts begin with the same formula.
-fn conjunction_of(
+pub(crate) fn conjunction_of(
     alloc: Global,
     interner: &mut Interner,
     facts: &mut Facts,

@@ -8,7 +8,9 @@
 
 mod choice;
 mod context;
+mod crossing;
 mod facts;
+mod fronting;
 mod machine;
 mod making;
 mod opening;

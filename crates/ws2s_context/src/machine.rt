@@ -70,6 +70,7 @@ pub(crate) fn run(
     requires going { IsGoing interner.old machine.old.tasks machine.old.rewritings.made.items }
     ensures kept { Extends interner.old interner.new }
     ensures ok { OnOk result (IsGoing interner.new machine.new.tasks machine.new.rewritings.made.items) }
+    ensures facts { OnOk result (AreFacts interner.new facts.new.facts.items) }
 {
     'tasks: for _ in 0..MANY_TASKS {
         let Some(task) = machine.tasks.pop() else {

@@ -9,9 +9,10 @@ ghost use Rattle.ws2s_context.specs.Facts.{AreFacts};
 ghost use Rattle.ws2s_context.specs.Going.{IsGoing, IsConjoining, IsNegating, IsQuantifying};
 
 use crate::context::{Context, note, used};
+use crate::crossing::crossed;
 use crate::facts::{Facts, make};
 use crate::machine::Machine;
-use crate::spine::{is_atom, is_conjunction};
+use crate::spine::is_conjunction;
 use crate::task::Place;
 use std::alloc::{AllocError, Global};
 use std::collections::HashSet;
@@ -76,6 +77,7 @@ pub(crate) fn make_negation(
 {
     let part = machine.rewritings.to(inner);
     let watched = machine.choice.watched(alloc, interner, place.context)?;
+    let crossed = crossed(alloc, interner, facts, &machine.choice, inner, part)?;
     let made = negated(
         alloc,
         interner,
@@ -83,7 +85,7 @@ pub(crate) fn make_negation(
         machine,
         place.context,
         inner.id,
-        part,
+        crossed,
     )?;
     machine.uses.pass_on(&watched, part, made)?;
     machine.rewritings.add(place, made)?;
@@ -108,7 +110,7 @@ pub(crate) fn make_quantified(
     ensures facts { OnOk result (AreFacts interner.new facts.new.facts.items) }
 {
     let part = machine.rewritings.to(inner);
-    let is_wanted = machine.choice.is_wanted(alloc, interner, inner.id)?;
+    let is_wanted = machine.choice.is_wanted(alloc, interner, facts, inner.id)?;
     let watched = machine.choice.watched(alloc, interner, inner.context)?;
     let beside = beside_context(alloc, interner, facts, inner.context, part, is_wanted)?;
     let made = make(alloc, interner, facts, Node::Ex2(t, beside))?;
@@ -143,7 +145,7 @@ fn negated(
 
 /// What a negation needs of its context. A few `Single` atoms always: to tell apart sets of many positions under a negation is dear (MONA's
 /// restrictions of first-order variables are the same). Where atoms alone are conjoined, those too that were conjoined inside what it
-/// negates, since what they ruled out there would be let in by it. Otherwise all, but for a negated atom.
+/// negates, since what they ruled out there would be let in by it. Otherwise all, but for a small negated formula.
 fn needed_by(
     alloc: Global,
     interner: &mut Interner,
@@ -160,7 +162,7 @@ fn needed_by(
     ensures implied { IfOk result (λ needed. Implies (context_at interner.old context) (context_at interner.new needed)) }
     ensures facts { IfOk result (λ needed. AreFacts interner.new facts.new.facts.items) }
 {
-    if machine.choice.is_whole() && !is_atom(interner, inner) {
+    if machine.choice.wants_all(facts, inner) {
         return Ok(context);
     }
     used(

@@ -5,10 +5,12 @@ ghost use Rattle.ws2s_core.specs.declared.formula.Formula.{Formula};
 ghost use Rattle.ws2s_core.specs.Nodes.{Extends, IsOnceEach};
 ghost use Rattle.ws2s_core.specs.Satisfaction.{Same};
 ghost use Rattle.ws2s_context.specs.Conjuncts.{IsThere, formula_of};
+ghost use Rattle.ws2s_context.specs.Facts.{AreFacts};
 ghost use Rattle.ws2s_context.specs.Going.{IsPlace, IsGoing};
 
 use crate::choice::Choice;
 use crate::facts::Facts;
+use crate::fronting::left_first;
 use crate::machine::{Machine, run};
 use crate::rewritings::Rewritings;
 use crate::task::{Place, Task};
@@ -61,19 +63,21 @@ fn rewritten(
     let mut machine = first_machine(alloc, interner, place, choice)?;
     run(alloc, interner, &mut facts, &mut machine)?;
     let made = machine.rewritings.to(place);
-    let folded = folded_left(alloc, interner, &machine, made)?;
+    let folded = folded_left(alloc, interner, &mut facts, &machine, made)?;
     Ok(folded)
 }
 
-/// What was rewritten, its chains of conjunctions folded to the left. Contexts and what stands beside them stay apart, since contexts are
-/// shared.
+/// What was rewritten, its chains of conjunctions folded to the left, and what the left half of the whole says in front of the conjuncts of
+/// the right one. Contexts and what stands beside them stay apart, since contexts are shared.
 fn folded_left(
     alloc: Global,
     interner: &mut Interner,
+    facts: &mut Facts,
     machine: &Machine,
     made: FormulaId,
 ) -> Result<FormulaId, AllocError>
-    requires { IsThere interner.old made }
+    requires there { IsThere interner.old made }
+    requires facts { AreFacts interner.old facts.old.facts.items }
     ensures there { IfOk result (IsThere interner.new) }
     ensures same { IfOk result (λ id. Same (formula_of interner.old made) (formula_of interner.new id)) }
     ensures kept { Extends interner.old interner.new }
@@ -81,7 +85,8 @@ fn folded_left(
     if !machine.choice.is_whole() {
         return Ok(made);
     }
-    let id = lean_left(alloc, interner, made, &machine.chains)?;
+    let fronted = left_first(alloc, interner, facts, made)?;
+    let id = lean_left(alloc, interner, fronted, &machine.chains)?;
     Ok(id)
 }
 

@@ -7,7 +7,10 @@ ghost use Rattle.ws2s_context.specs.Conjuncts.{IsThere, IsConjunct, AreConjuncts
 use std::alloc::{AllocError, Global};
 use ws2s_core::{FormulaId, Interner, Node};
 
-/// How many conjunctions and conjuncts are looked at, at most.
+/// How many conjunctions and conjuncts are looked at for conjuncts, at most.
+const MANY_PARTS: u32 = 2_048;
+
+/// How many parts are looked at for a step, at most.
 const MANY_LOOKS: u32 = 512;
 
 /// The conjuncts of a formula from the left, as far as they are looked for.
@@ -22,7 +25,7 @@ pub(crate) fn conjuncts_of(
     let mut waiting = Vec::new(alloc);
     waiting.push(id)?;
     let mut found = Vec::new(alloc);
-    'looks: for _ in 0..MANY_LOOKS {
+    'looks: for _ in 0..MANY_PARTS {
         let Some(next) = waiting.pop() else {
             break 'looks;
         };

@@ -19,7 +19,7 @@ loop-turn-init c =
     let whole : NodeRef = slice_index_or roots c.args.index (record { word = 0 }) in
     let work : Work = record { shelf = c.args.shelf.now; roots = roots; before = c.args.nodes.now.items; whole = whole } in
     let there : Contains roots whole = (c.args.index, c.requires.inside, get_or_default roots c.args.index whole (record { word = 0 }) c.requires.inside) in
-    works-start work c.args.nodes.now.items c.args.memo.now c.new-stack.result c.requires.shelf refl c.new-stack.ensures
+    works-start work c.args.nodes.now.items c.args.memo.now c.args.stack.now c.requires.shelf refl c.requires.none
     (All-contains (IsValid c.args.shelf.now) roots whole c.requires.valid there) there c.requires.list
 
 pub returns-in-None-clause-lists : goal.returns-in-None-clause-lists

@@ -23,6 +23,7 @@ loop-index-preserved c =
     let pushed : c.push.new.self ≡ listed ++ new ∷ [] = c.in_ok-push.ensures.ok in
     let many = c.loop-index.invariant.many in
     record {
+      none = c.in_ok-list_from.ensures.none;
       list = c.in_ok-list_from.ensures.list;
       many = ap length pushed ∙ length-append listed (new ∷ []) ∙ (omega arith);
       lists = λ k r x r_there x_there. elim (push-cases listed new x k (sym (ap (λ (xs : List Listed). slice_get xs k) pushed) ∙ x_there)) [

@@ -7,8 +7,8 @@ use Rattle.ws2s_context.proofs.rewriting.rewritten.Goals as goal
 pub first_machine-requires : goal.first_machine-requires
 first_machine-requires c = record { id_there = c.requires; context_there = tt }
 
-pub folded_left-requires : goal.folded_left-requires
-folded_left-requires c =
+pub folded_left-requires-clause-there : goal.folded_left-requires-clause-there
+folded_left-requires-clause-there c =
     (c.to-made.ensures c.run.new.interner c.in_ok-run.ensures.ok.made
     (record { id_there = there-extends c.args.interner.now c.run.new.interner c.args.id c.run.ensures.kept c.requires; context_there = tt })).to_there
 

@@ -1,0 +1,5 @@
+use Rattle.ws2s_context.specs.Conjuncts.{IsAmong}
+use Rattle.ws2s_context.proofs.crossing.choose_crossing.Given as goal
+
+abbrev pub invariant-loop-conjunct : goal.invariant-loop-conjunct
+invariant-loop-conjunct l = IsAmong l.fn.chosen.items l.conjuncts l.chosen.items
