@@ -17,6 +17,7 @@
 //!   the number of a large formula, `negations 9`, `zigzag 9` or `doubled 9`, with its size.
 #![tactic(auto)]
 
+mod agreeing;
 mod built;
 mod bundle;
 mod chain;

@@ -5,6 +5,7 @@ ghost use Rattle.bdd_nodes.specs.Shelf.{IsShelf, roots_of};
 ghost use Rattle.gta_theory.specs.Guides.{Spaces};
 ghost use Rattle.gta_core.specs.Auto.{IsAuto};
 
+use crate::agreeing::{Agreement, agreeing};
 use crate::guides::guide_of;
 use crate::lines::{write_number, write_unknown};
 use crate::literals::{Literal, automaton, with};
@@ -25,6 +26,8 @@ use ws2s_core::{Guide, Track};
 enum Step {
     /// The product with the minimal automaton of a literal.
     With(Literal),
+    /// The product with the automaton of the trees that agree with one.
+    Like(Agreement),
     /// The projection that drops a track.
     Drop(u32),
     /// The complement.
@@ -38,7 +41,15 @@ enum Step {
 }
 
 impl Step {
-    /// The step of a word: a literal, `ex.0`, `not`, `min`, `merge` or `copy`.
+    /// The step that is a product: with a literal, or with what agrees with a tree.
+    fn made(word: &str) -> Option<Step> {
+        match Agreement::of(word) {
+            Some(agreement) => Some(Step::Like(agreement)),
+            None => Some(Step::With(Literal::of(word)?)),
+        }
+    }
+
+    /// The step of a word: a literal, `like.3.17.0`, `ex.0`, `not`, `min`, `merge` or `copy`.
     fn of(word: &str) -> Option<Step> {
         match word {
             "not" => Some(Step::Not),
@@ -47,7 +58,7 @@ impl Step {
             "copy" => Some(Step::Copy),
             _ => match word.strip_prefix("ex.") {
                 Some(track) => Some(Step::Drop(track.parse().ok()?)),
-                None => Some(Step::With(Literal::of(word)?)),
+                None => Step::made(word),
             },
         }
     }
@@ -75,6 +86,7 @@ fn after(alloc: Global, g: &Guide, a: Auto, step: Step, shelf: &mut Shelf) -> Re
 {
     match step {
         Step::With(literal) => with(alloc, g, &a, literal, shelf),
+        Step::Like(agreement) => agreeing(alloc, g, &a, agreement, shelf),
         Step::Drop(track) => project(alloc, g, &a, Track(track), shelf),
         Step::Not => Ok(complement(a)),
         Step::Minimise => minimise(alloc, g, &a, shelf),

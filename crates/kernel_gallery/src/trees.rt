@@ -63,7 +63,7 @@ fn sides_of(size: u32, number: u32) -> Sides
 }
 
 /// The tree of this number among those of so many nodes.
-fn tree_of(alloc: Global, size: u32, number: u32) -> Result<TreeNodeList, AllocError>
+pub(crate) fn tree_of(alloc: Global, size: u32, number: u32) -> Result<TreeNodeList, AllocError>
     requires { size ≤ 4 }
     ensures tree { IfOk result IsTree }
     ensures size { IfOk result (λ nodes. length nodes ≡ size) }
