@@ -1,5 +1,5 @@
 -- What `judge` and `meet` have written: the reports on the fields, and what was asked for.
-use Rattle.std.proofs.Common.{◌≡◌, ◌∙◌, ◌+◌, ◌-◌, ◌<◌, ◌≤◌, ◌++◌, ℕ, suc, Bool, true, false, List, [], ◌∷◌, length}
+use Rattle.std.proofs.Common.{◌≡◌, ◌∙◌, ◌-◌, ◌<◌, ◌≤◌, ◌++◌, ℕ, suc, Bool, true, false, List, [], ◌∷◌, length}
 use Rattle.std.proofs.Common.{Result, Option, Some, inl, inr, refl, sym, ap, subst, arith}
 use Rattle.std.proofs.Common.{append_assoc, length-append}
 use Rattle.std.specs.Prelude.{All, slice_get, IfSome, IfNone, None}
@@ -26,7 +26,7 @@ use Rattle.pale_io.specs.Told.{appended}
 use Rattle.pale_io.specs.Whole.{WritesAll, WritesFront}
 use Rattle.pale_parts.specs.declared.request.Request.{Request}
 use Rattle.pale_parts.specs.declared.request.Request.TheVariants as request
-use Rattle.pale_parts.specs.Requests.{Asks, fields, triple, IsRequest, IsRequestFault, request_line}
+use Rattle.pale_parts.specs.Requests.{triple, IsRequest, IsRequestFault, request_line}
 use Rattle.pale_modes.specs.declared.status.Status.{Status}
 use Rattle.pale_modes.specs.Written.{Wrote, WroteAtMost}
 use Rattle.pale_modes.proofs.WrittenLemmas.{nothing_written, both_written, front_of_first, first_written, front_of_second}

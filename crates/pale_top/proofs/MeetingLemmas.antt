@@ -1,6 +1,6 @@
 -- What `meet` has written between what it tells of one triple and the next.
 use Rattle.std.proofs.Common.{◌≡◌, ◌∙◌, inl, inr, ◌+◌, ◌<◌, ◌≤◌, ◌++◌, ℕ, suc, List, [], ◌∷◌, length, take, drop, get_or, Option, refl, sym, ap}
-use Rattle.std.proofs.Common.{subst, arith, append_assoc, length-append, take-append-drop, append-nil}
+use Rattle.std.proofs.Common.{subst, arith, append_assoc, length-append, take-append-drop}
 use Rattle.std.specs.Prelude.{All}
 use Rattle.std.proofs.lemmas.List.{take_more, take_all}
 use Rattle.store_exec.specs.declared.triple.Triple.{Triple}

@@ -1,5 +1,5 @@
 -- What `judge` writes for a text and how it ends: what `check` reports on one triple, or on the pointer fields alone.
-use Rattle.std.specs.Prelude.{◌≡◌, ◌<◌, ◌≤◌, ℕ, suc, false, List, [], ◌∷◌, ◌++◌, length, slice_get, Option, None, Some}
+use Rattle.std.specs.Prelude.{◌≡◌, ◌<◌, ◌≤◌, ℕ, suc, false, List, [], ◌++◌, length, slice_get, Option, None, Some}
 use Rattle.std.specs.List.{list_all}
 use Rattle.pale_text.specs.declared.refusal.Refusal.{Refusal}
 use Rattle.pale_text.specs.declared.refusal.TextStop.TheVariants as stop

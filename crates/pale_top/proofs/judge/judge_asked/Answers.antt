@@ -1,4 +1,4 @@
-use Rattle.std.proofs.Common.{◌≡◌, ◌-◌, ℕ, List, length, subst, sym}
+use Rattle.std.proofs.Common.{◌-◌, ℕ, length, subst, sym}
 use Rattle.bdd_nodes.specs.Shelf.{limit_of}
 use Rattle.hoare_split.specs.Fitting.{FitsProgram}
 use Rattle.pale_parts.specs.declared.request.Request.{Request}

@@ -1,4 +1,4 @@
-use Rattle.std.proofs.Common.{◌≡◌, ◌∙◌, ℕ, List, length, subst, sym}
+use Rattle.std.proofs.Common.{◌∙◌, ℕ, List, length, subst, sym}
 use Rattle.std.specs.Prelude.{IfSome}
 use Rattle.store_text.specs.Lines.{lines_of}
 use Rattle.pale_parts.specs.Requests.{IsRequest, IsRequestFault}
