@@ -1,6 +1,6 @@
 //! The triples of a program.
 
-ghost use Rattle.std.specs.Prelude.{◌≡◌, None, IfOk, IfErr, OnOk, All};
+ghost use Rattle.std.specs.Prelude.{◌≡◌, ◌+◌, None, IfOk, IfErr, OnOk, All};
 ghost use Rattle.pale_tables.specs.Faults.{IsStop};
 ghost use Rattle.pale_typed.specs.Fitting.{ProgramFits};
 ghost use Rattle.hoare_split.specs.Fitting.{FitsProgram, IsShort};
@@ -10,7 +10,14 @@ use crate::points::{TripleList, split_procedure};
 use hoare_split::{caller_at, first_fault, triples_of_programs_that_fit_fit};
 use pale_text::TextStop;
 use pale_typed::Typed;
-use std::alloc::Global;
+use std::alloc::{AllocError, Global};
+
+/// The number of the procedure after this one. Want of memory past the last number.
+fn number_after(number: u32) -> Result<u32, AllocError>
+    ensures { IfOk result (λ next. next ≡ number + 1) }
+{
+    number.checked_add(1).ok_or(AllocError)
+}
 
 /// The triples of a typed program, those of its procedures in order, in each those of its cut points in order of the text. Those of a
 /// program that fits fit it.
@@ -29,14 +36,13 @@ pub fn split(alloc: Global, t: &Typed) -> Result<TripleList, TextStop>
 {
     triples_of_programs_that_fit_fit();
     let mut triples = TripleList::new(alloc);
-    for number in 0..u32::MAX {
-        let Some(caller) = caller_at(t, number) else {
-            return Ok(triples);
-        };
+    let mut number = 0;
+    while let Some(caller) = caller_at(t, number) {
         if let Some(refusal) = first_fault(&caller) {
             return Err(TextStop::Refused(refusal));
         }
         split_procedure(alloc, &caller, &mut triples)?;
+        number = number_after(number)?;
     }
-    Err(TextStop::NoMemory)
+    Ok(triples)
 }
