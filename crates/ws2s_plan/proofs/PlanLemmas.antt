@@ -1,12 +1,12 @@
 -- On networks by numbers of formulas.
 use Rattle.std.proofs.Common.{◌≡◌, ℕ, ◌≤◌, ◌↔◌, ◌⊎◌, inl, inr, true, false, List, [], ◌∷◌, ◌++◌, length, map, take, drop, All, Contains, refl, sym, ap, ap₂, subst, ◌∙◌, arith}
-use Rattle.std.proofs.Common.{nat_eq}
+use Rattle.std.proofs.Common.{Option, None, Some, IfSome, slice_get, Bool, ◌<◌, ◌+◌, nat_eq, filter, cond, get_or}
 use Rattle.std.specs.HashSet.{contains}
 use Rattle.std.specs.List.{insert}
 use Rattle.std.proofs.lemmas.Bool.{false≢true}
 use Rattle.std.proofs.lemmas.List.{take-append-drop, map-append, length-append}
 use Rattle.std.proofs.lemmas.List.Elements.{All-nil, All-cons, All-head, All-tail, All-append, All-take, All-drop, All-map, All-weaker}
-use Rattle.std.proofs.lemmas.List.Elements.{Contains-append_left, Contains-append_right}
+use Rattle.std.proofs.lemmas.List.Elements.{filter_more, Contains-append_left, Contains-append_right}
 use Rattle.gta_theory.specs.Assignments.{Assignment, IsFinite}
 use Rattle.gta_theory.proofs.ListsLemmas.{Contains-mapped, Contains-first}
 use Rattle.ws2s_core.specs.declared.track.Track.{Track}
@@ -16,6 +16,7 @@ use Rattle.ws2s_core.specs.declared.node.FormulaId.{FormulaId}
 use Rattle.ws2s_core.specs.Nodes.{Extends}
 use Rattle.ws2s_core.specs.Satisfaction.{WSat}
 use Rattle.ws2s_core.specs.Tracks.{IsFree}
+use Rattle.ws2s_core.proofs.NodesLemmas.{at-formula_at, formula_at-is}
 use Rattle.ws2s_core.proofs.SatisfactionLemmas.{WSat-And}
 use Rattle.ws2s_theory.specs.Contexts.{SatisfiesAll}
 use Rattle.ws2s_context.specs.Conjuncts.{IsThere, formula_of, formulas_at}
@@ -29,7 +30,8 @@ use Rattle.ws2s_plan.specs.declared.conjuncts.Taking.{Taking}
 use Rattle.ws2s_plan.specs.declared.eliminating.Parted.{Parted}
 use Rattle.ws2s_plan.specs.declared.eliminating.Eliminated.{Eliminated}
 use Rattle.ws2s_plan.specs.declared.planning.Planning.{Planning}
-use Rattle.ws2s_plan.specs.Plan.{gone_at}
+use Rattle.ws2s_plan.specs.declared.network.Network.{Network}
+use Rattle.ws2s_plan.specs.Plan.{AreAllTracks, IsNetworkOf, gone_at}
 use Rattle.ws2s_plan.specs.Steps.{AreHalves, IsTaking, IsParted, IsEliminatedBy, IsPlanning}
 
 -- ---- lists
@@ -37,6 +39,21 @@ use Rattle.ws2s_plan.specs.Steps.{AreHalves, IsTaking, IsParted, IsEliminatedBy,
 pub none-long : {X : Type 0} (xs : List X) → length xs ≡ 0 → xs ≡ []
 none-long [] e = refl
 none-long (x ∷ xs) e = absurd (omega arith)
+
+append-none : {X : Type 0} (xs : List X) → xs ++ [] ≡ xs
+append-none [] = refl
+append-none (x ∷ xs) = ap (λ l. x ∷ l) (append-none xs)
+
+module _ {X : Type 0} (p : X → Bool) (xs : List X) (i : ℕ) (d : X) (lt : i < length xs) (old new : List X) where
+  pub filter-taken : p (get_or xs i d) ≡ true → new ≡ old ++ get_or xs i d ∷ [] → old ≡ filter p (take i xs) → new ≡ filter p (take (i + 1) xs)
+  filter-taken is e was =
+      e ∙ ap (λ l. l ++ get_or xs i d ∷ []) was
+      ∙ sym (filter_more p xs i d lt ∙ ap (λ b. filter p (take i xs) ++ cond b (get_or xs i d ∷ []) []) is)
+
+  pub filter-left : p (get_or xs i d) ≡ false → new ≡ old → old ≡ filter p (take i xs) → new ≡ filter p (take (i + 1) xs)
+  filter-left is e was =
+      e ∙ was
+      ∙ sym (filter_more p xs i d lt ∙ ap (λ b. filter p (take i xs) ++ cond b (get_or xs i d ∷ []) []) is ∙ append-none (filter p (take i xs)))
 
 module _ {X : Type 0} (P : X → Type 0) where
   All-front : (xs ys : List X) → All P (xs ++ ys) → All P xs
@@ -59,6 +76,10 @@ module _ {X : Type 0} (P : X → Type 0) where
 
   pub last : (xs new : List X) (x : X) → new ≡ xs ++ x ∷ [] → All P new → P x
   last xs new x e all = All-head P x [] (All-back xs (x ∷ []) (subst (All P) e all))
+
+  -- one fewer
+  pub removed : (xs new : List X) (i : ℕ) → new ≡ take i xs ++ drop (i + 1) xs → All P xs → All P new
+  removed xs new i e all = subst (All P) (sym e) (All-append P (take i xs) (drop (i + 1) xs) (All-take P i xs all) (All-drop P (i + 1) xs all))
 
   -- one more somewhere
   pub put : (xs new : List X) (i : ℕ) (x : X) → new ≡ insert xs i x → All P xs → P x → All P new
@@ -461,3 +482,62 @@ IsPlanning-more old new weigh f planning later t made extends free by units gone
           (subst (λ (ids : List FormulaId). IsEliminated t.0 (formula_of new made.bucket) (formulas_at new planning.units.items) (formulas_at new ids))
           (sym units) by.eliminated));
     }
+
+pub IsPlanning-start : (formulas : List Formula) (weigh : List Track) (f : Formula) (planning : Planning) → IsConjunction formulas f planning.units.items →
+    All (λ (t : Track). Contains weigh t → ⊥) planning.waiting.items → planning.eliminations ≡ [] → IsPlanning formulas weigh f planning
+IsPlanning-start formulas weigh f planning conjunction unweighed none = record {
+  units_there = conjunction.there;
+  buckets_there = subst (All (λ (one : Elimination). IsThere formulas one.bucket)) (sym none) (All-nil (λ (one : Elimination). IsThere formulas one.bucket));
+  unweighed = unweighed;
+  eliminated = λ weighed of.
+      subst (λ (es : List Elimination). AreEliminated weighed (gone_at formulas es) (f ∷ []) (formulas_at formulas planning.units.items)) (sym none) same;
+}
+  where
+    same : AreSame (f ∷ []) (formulas_at formulas planning.units.items)
+    same a finite = (
+      (λ sat. each-all formulas planning.units.items a ((conjunction.exactly a finite).0 (All-head (λ c. WSat c a) f [] sat))),
+      (λ sat. All-one (λ c. WSat c a) f ((conjunction.exactly a finite).1 (all-each formulas planning.units.items a sat))),
+    )
+
+pub IsNetworkOf-finished : (old new : List Formula) (weigh : List Track) (f : Formula) (planning : Planning) (network : Network) (first : FormulaId)
+    (more : List FormulaId) → Extends old new → planning.units.items ≡ first ∷ more → network.eliminations ≡ planning.eliminations →
+    IsThere new network.rest → IsFolded old (formula_of old first) more (formula_of new network.rest) → AreAllTracks weigh f network.tracks →
+    IsPlanning old weigh f planning → IsNetworkOf new weigh f network
+IsNetworkOf-finished old new weigh f planning network first more extends units gone there folded all_tracks was = record {
+  rest = formula_of new network.rest;
+  is_rest = at-formula_at new network.rest.0 there;
+  buckets_there = subst (All (λ (one : Elimination). IsThere new one.bucket)) (sym gone) now.buckets_there;
+  eliminated = λ weighed of.
+      subst (λ (es : List Elimination). AreEliminated weighed (gone_at new es) (f ∷ []) (formula_of new network.rest ∷ [])) (sym gone)
+      (AreEliminated-same weighed (gone_at new planning.eliminations) (f ∷ []) (formulas_at new planning.units.items)
+      (formula_of new network.rest ∷ []) (now.eliminated weighed of) same);
+  all_tracks = all_tracks;
+}
+  where
+    now : IsPlanning new weigh f planning
+    now = IsPlanning-extends old new weigh f planning planning extends refl refl was.unweighed was
+
+    same : AreSame (formulas_at new planning.units.items) (formula_of new network.rest ∷ [])
+    same a finite = (
+      (λ sat.
+          let each = subst (λ (ids : List FormulaId). SatisfiesEach old ids a) units
+              ((each-extends old new planning.units.items a extends was.units_there).1 (all-each new planning.units.items a sat)) in
+          All-one (λ c. WSat c a) (formula_of new network.rest) ((folded.exactly a finite).1
+          (All-head (λ id. WSat (formula_of old id) a) first more each, All-tail (λ id. WSat (formula_of old id) a) first more each))),
+      (λ sat.
+          let both = (folded.exactly a finite).0 (All-head (λ c. WSat c a) (formula_of new network.rest) [] sat) in
+          let each = subst (λ (ids : List FormulaId). SatisfiesEach old ids a) (sym units)
+              (All-cons (λ id. WSat (formula_of old id) a) first more both.0 both.1) in
+          each-all new planning.units.items a ((each-extends old new planning.units.items a extends was.units_there).0 each)),
+    )
+
+-- what is found says more
+pub some-weaker : {A : Type 0} (P Q : A → Type 0) → ((x : A) → P x → Q x) → (o : Option A) → IfSome o P → IfSome o Q
+some-weaker P Q h (Some x) p = h x p
+some-weaker P Q h None p = p
+
+pub network-value : (old new : List Formula) (weigh : List Track) (id : FormulaId) (o : Option Network) → IfSome o (IsNetworkOf new weigh (formula_of old id)) →
+    IfSome o (λ network. (f : Formula) → slice_get old id.0 ≡ Some f → IsNetworkOf new weigh f network)
+network-value old new weigh id o h =
+    some-weaker (IsNetworkOf new weigh (formula_of old id)) (λ network. (f : Formula) → slice_get old id.0 ≡ Some f → IsNetworkOf new weigh f network)
+    (λ network is f e. subst (λ (g : Formula). IsNetworkOf new weigh g network) (formula_at-is old id.0 f e) is) o h

@@ -46,5 +46,6 @@ pub fn network_of(
         IsNetworkOf interner.new weigh.now f network)) }
     ensures kept { Extends interner.old interner.new }
 {
-    planned(alloc, interner, id, tracks, weigh)
+    let made = planned(alloc, interner, id, tracks, weigh)?;
+    Ok(made)
 }

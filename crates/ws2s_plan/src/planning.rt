@@ -1,6 +1,6 @@
 //! Tracks eliminated one after the other.
 
-ghost use Rattle.std.specs.Prelude.{◌≡◌, ◌+◌, ◌<◌, List, All, Contains, IfOk, OnOk, IfSome, length};
+ghost use Rattle.std.specs.Prelude.{◌≡◌, ◌+◌, ◌<◌, true, List, All, Contains, IfOk, OnOk, IfSome, length};
 ghost use Rattle.ws2s_core.specs.declared.track.Track.{Track};
 ghost use Rattle.ws2s_core.specs.declared.formula.Formula.{Formula};
 ghost use Rattle.ws2s_core.specs.Nodes.{Extends};
@@ -51,7 +51,8 @@ pub(crate) fn planned(
     let mut planning = first_planning(alloc, interner, id, tracks, weigh)?;
     let weighed = numbers_of(alloc, weigh)?;
     eliminate_all(alloc, interner, &mut facts, &weighed, &mut planning)?;
-    finished(alloc, interner, &mut facts, planning, known)
+    let made = finished(alloc, interner, &mut facts, planning, known)?;
+    Ok(made)
 }
 
 /// The formula's conjuncts, and those of the tracks that aren't weighed.
@@ -80,11 +81,18 @@ fn unweighed(alloc: Global, tracks: &TrackList, weigh: &TrackList) -> Result<Vec
 {
     let mut found = Vec::new(alloc);
     for track in tracks.as_slice() {
-        if !weigh.as_slice().contains(track) {
+        if is_unweighed(weigh, *track) {
             found.push(*track)?;
         }
     }
     Ok(found)
+}
+
+/// Whether the track isn't weighed.
+fn is_unweighed(weigh: &TrackList, t: Track) -> bool
+    ensures { result ≡ true → Contains weigh.now t → ⊥ }
+{
+    !weigh.as_slice().contains(&t)
 }
 
 /// The numbers of the tracks.
