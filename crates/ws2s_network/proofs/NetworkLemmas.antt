@@ -1,10 +1,10 @@
 -- On tracks that are eliminated.
-use Rattle.std.proofs.Common.{◌≡◌, ℕ, ◌≤◌, max, ◌↔◌, ◌⊎◌, inl, inr, Bool, true, false, List, [], ◌∷◌, ◌++◌, Contains, cond}
+use Rattle.std.proofs.Common.{◌≡◌, ℕ, max, ◌↔◌, ◌⊎◌, inl, inr, Bool, true, false, List, [], ◌∷◌, ◌++◌, Contains, cond}
 use Rattle.std.proofs.Common.{refl, sym, ap, subst, ◌∙◌, arith}
 use Rattle.std.proofs.lemmas.Bool.{false≢true}
 use Rattle.std.proofs.Common.{eqb, eq-eqb}
-use Rattle.std.proofs.lemmas.List.Elements.{All-nil, All-cons, All-head, All-tail}
-use Rattle.gta_theory.specs.Assignments.{Position, PositionSet, Assignment, IsFiniteSet, IsFinite, Covers, replace}
+use Rattle.std.proofs.lemmas.List.Elements.{All-nil, All-cons, All-head}
+use Rattle.gta_theory.specs.Assignments.{Position, PositionSet, Assignment, IsFinite, Covers, replace}
 use Rattle.gta_theory.specs.Weights.{weight}
 use Rattle.gta_theory.proofs.AssignmentsLemmas.{Covers-more, Covers-finite, replace-other}
 use Rattle.gta_theory.proofs.ListsLemmas.{Contains-none, Contains-cases, All-from_contains}

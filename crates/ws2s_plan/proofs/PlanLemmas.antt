@@ -1,5 +1,5 @@
 -- On networks by numbers of formulas.
-use Rattle.std.proofs.Common.{◌≡◌, ℕ, ◌≤◌, ◌↔◌, ◌⊎◌, inl, inr, true, false, List, [], ◌∷◌, ◌++◌, length, map, take, drop, All, Contains, refl, sym, ap, ap₂, subst, ◌∙◌, arith}
+use Rattle.std.proofs.Common.{◌≡◌, ℕ, ◌≤◌, ◌↔◌, ◌⊎◌, inl, inr, true, false, List, [], ◌∷◌, ◌++◌, length, take, drop, All, Contains, refl, sym, ap, ap₂, subst, ◌∙◌, arith}
 use Rattle.std.proofs.Common.{Option, None, Some, IfSome, slice_get, Bool, ◌<◌, ◌+◌, nat_eq, filter, cond, get_or}
 use Rattle.std.specs.HashSet.{contains}
 use Rattle.std.specs.List.{insert}
@@ -20,7 +20,6 @@ use Rattle.ws2s_core.proofs.NodesLemmas.{at-formula_at, formula_at-is}
 use Rattle.ws2s_core.proofs.SatisfactionLemmas.{WSat-And}
 use Rattle.ws2s_theory.specs.Contexts.{SatisfiesAll}
 use Rattle.ws2s_context.specs.Conjuncts.{IsThere, formula_of, formulas_at}
-use Rattle.ws2s_context.specs.Opening.{AreOf}
 use Rattle.ws2s_context.proofs.ConjunctsLemmas.{All-contains, at-extends, there-extends, all_there-extends, formulas_at-extends}
 use Rattle.ws2s_lean.specs.Conjunctions.{SatisfiesEach, IsConjunction, IsFolded}
 use Rattle.ws2s_network.specs.Network.{IsEliminated, AreEliminated, AreSame}
@@ -521,13 +520,13 @@ IsNetworkOf-finished old new weigh f planning network first more extends units g
     same a finite = (
       (λ sat.
           let each = subst (λ (ids : List FormulaId). SatisfiesEach old ids a) units
-              ((each-extends old new planning.units.items a extends was.units_there).1 (all-each new planning.units.items a sat)) in
+          ((each-extends old new planning.units.items a extends was.units_there).1 (all-each new planning.units.items a sat)) in
           All-one (λ c. WSat c a) (formula_of new network.rest) ((folded.exactly a finite).1
           (All-head (λ id. WSat (formula_of old id) a) first more each, All-tail (λ id. WSat (formula_of old id) a) first more each))),
       (λ sat.
           let both = (folded.exactly a finite).0 (All-head (λ c. WSat c a) (formula_of new network.rest) [] sat) in
           let each = subst (λ (ids : List FormulaId). SatisfiesEach old ids a) (sym units)
-              (All-cons (λ id. WSat (formula_of old id) a) first more both.0 both.1) in
+          (All-cons (λ id. WSat (formula_of old id) a) first more both.0 both.1) in
           each-all new planning.units.items a ((each-extends old new planning.units.items a extends was.units_there).0 each)),
     )
 

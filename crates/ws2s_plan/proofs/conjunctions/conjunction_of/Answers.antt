@@ -1,4 +1,4 @@
-use Rattle.std.proofs.Common.{List, All, [], ◌∷◌, ◌∙◌, ap, length, subst, sym}
+use Rattle.std.proofs.Common.{List, All, ◌∙◌, ap, length, subst, sym}
 use Rattle.std.proofs.lemmas.List.Elements.{All-head, All-tail}
 use Rattle.ws2s_core.specs.declared.formula.Formula.TheVariants.{And}
 use Rattle.ws2s_core.specs.declared.node.FormulaId.{FormulaId}
@@ -34,7 +34,7 @@ loop-conjunct-preserved c =
     let more = c.in-Some.more.now in
     let all = subst (λ (ids : List FormulaId). All (IsThere a) ids) c.in-Some.ensures.cases.0 l.invariant.inside in
     let is = made-And l.interner new c.in_ok-made.made l.made conjunct c.in_ok-made.ensures.value
-        ∙ ap (And (formula_of l.interner l.made)) (at-extends a l.interner conjunct l.invariant.kept (All-head (IsThere a) conjunct more all)) in
+    ∙ ap (And (formula_of l.interner l.made)) (at-extends a l.interner conjunct l.invariant.kept (All-head (IsThere a) conjunct more all)) in
     record {
       kept = Extends-trans a l.interner new l.invariant.kept c.make.ensures.kept;
       there = there-made new _ _ c.in_ok-made.ensures.value;

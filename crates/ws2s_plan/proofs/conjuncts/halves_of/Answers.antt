@@ -1,4 +1,4 @@
-use Rattle.std.proofs.Common.{◌≡◌, ◌<◌, length, sym, arith}
+use Rattle.std.proofs.Common.{◌<◌, length, sym, arith}
 use Rattle.std.proofs.lemmas.Option.{slice_get_within}
 use Rattle.ws2s_lean.proofs.NumbersLemmas.{at-And, halves-below}
 use Rattle.ws2s_plan.proofs.conjuncts.halves_of.Goals as goal

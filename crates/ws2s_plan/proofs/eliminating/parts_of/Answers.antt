@@ -1,4 +1,4 @@
-use Rattle.std.proofs.Common.{List, ◌∷◌, refl, sym, subst}
+use Rattle.std.proofs.Common.{List, refl, subst}
 use Rattle.ws2s_core.specs.declared.node.FormulaId.{FormulaId}
 use Rattle.ws2s_plan.specs.Steps.{IsParted}
 use Rattle.ws2s_plan.proofs.PlanLemmas.{none-long, IsParted-start}

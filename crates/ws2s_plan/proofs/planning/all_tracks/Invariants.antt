@@ -1,5 +1,4 @@
 use Rattle.std.proofs.Common.{◌≡◌, ◌++◌, map, take}
-use Rattle.ws2s_core.specs.declared.track.Track.{Track}
 use Rattle.ws2s_plan.proofs.planning.all_tracks.Given as goal
 
 abbrev pub invariant-loop-number : goal.invariant-loop-number

@@ -1,4 +1,4 @@
-use Rattle.std.proofs.Common.{List, Contains, All, IfSome, Option, refl, sym, subst}
+use Rattle.std.proofs.Common.{List, Contains, IfSome, Option, refl, sym, subst}
 use Rattle.ws2s_core.specs.declared.track.Track.{Track}
 use Rattle.ws2s_core.specs.declared.node.FormulaId.{FormulaId}
 use Rattle.ws2s_plan.specs.Steps.{IsEliminatedBy}
@@ -18,7 +18,7 @@ returns-clause-value c = λ weigh f was.
     let track = c.remove-track.result in
     let new = c.eliminate_from.new.interner in
     let by : IsEliminatedBy new track c.as_slice.result.now c.in-Some.made =
-        subst (λ (o : Option Eliminated). IfSome o (IsEliminatedBy new track c.as_slice.result.now)) c.in-Some.is c.in_ok-made.ensures.value in
+    subst (λ (o : Option Eliminated). IfSome o (IsEliminatedBy new track c.as_slice.result.now)) c.in-Some.is c.in_ok-made.ensures.value in
     IsPlanning-more c.args.interner.now new weigh f c.args.planning.now _ track c.in-Some.made c.eliminate_from.ensures.kept
     (subst P (sym c.remove-track.ensures.value) (was.unweighed c.args.place track c.requires.place))
     (subst (λ (ids : List FormulaId). IsEliminatedBy new track ids c.in-Some.made) c.as_slice.ensures.value by) refl c.in_ok-push.ensures.ok

@@ -1,4 +1,4 @@
-use Rattle.std.proofs.Common.{List, All, ◌∷◌, ◌∙◌, refl, sym, subst}
+use Rattle.std.proofs.Common.{List, All, ◌∙◌, refl, sym, subst}
 use Rattle.std.proofs.lemmas.List.Elements.{All-head, All-tail}
 use Rattle.ws2s_core.specs.declared.node.FormulaId.{FormulaId}
 use Rattle.ws2s_context.specs.Conjuncts.{IsThere}

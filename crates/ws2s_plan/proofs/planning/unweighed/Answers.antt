@@ -1,4 +1,4 @@
-use Rattle.std.proofs.Common.{List, Contains, Vec, All, ap, subst, sym, ◌∙◌}
+use Rattle.std.proofs.Common.{Contains, Vec, All, ap, subst, sym, ◌∙◌}
 use Rattle.std.specs.declared.alloc.Global.{Global}
 use Rattle.ws2s_core.specs.declared.track.Track.{Track}
 use Rattle.ws2s_plan.proofs.PlanLemmas.{pushed}
