@@ -24,7 +24,7 @@ use ws2s_core::{Guide, LabelTree, TrackList};
 /// `Limit` where the shelf has no room for a node. Want of memory, also where a space has more shapes than there are state
 /// numbers, or the roots are more than a `u32` counts. After a stop no table is left.
 pub fn pinned(
-    alloc: Global,
+    _alloc: Global,
     g: &Guide,
     tree: &LabelTree,
     tracks: &TrackList,
@@ -43,6 +43,6 @@ pub fn pinned(
     ensures shelf { IsShelf shelf.new }
 {
     // Only for their clauses `shelf` and `guide`.
-    let _ = (shelf.count(), g.children(0), alloc, tree, tracks);
+    let _ = (shelf.count(), g.children(0));
     Err(Stop::NoMemory)
 }

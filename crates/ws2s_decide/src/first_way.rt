@@ -115,14 +115,7 @@ impl FirstWay {
         ensures ready { IsReady interner.now self.new }
     {
         self.open(alloc, limit)?;
-        verdict_by_network_in(
-            alloc,
-            &self.guide,
-            interner,
-            network,
-            weigh,
-            &mut self.room,
-        )
+        verdict_by_network_in(alloc, &self.guide, interner, network, weigh, &mut self.room)
     }
 }
 

@@ -47,7 +47,10 @@ pub(crate) fn verdict_by_network(
     match verdict_of(alloc, g, interner, rest, to_the_end, weigh, kept, shelf)? {
         Verdict::None => Ok(Verdict::None),
         Verdict::Witness(tree, weight) => {
-            go_back(alloc, g, interner, network, tree, weight, weigh, kept, shelf)
+            let back = go_back(
+                alloc, g, interner, network, tree, weight, weigh, kept, shelf,
+            )?;
+            Ok(back)
         }
         Verdict::TooLarge | Verdict::Limit => Ok(Verdict::Limit),
     }
@@ -76,7 +79,17 @@ fn go_back(
     let mut rest = network.eliminations.as_slice();
     while let Some((last, before)) = rest.split_last() {
         let known = tracks_left(alloc, network.tracks.as_slice(), rest)?;
-        let made = valued(alloc, g, interner, last.bucket, &known, &found.0, weigh, kept, shelf)?;
+        let made = valued(
+            alloc,
+            g,
+            interner,
+            last.bucket,
+            &known,
+            &found.0,
+            weigh,
+            kept,
+            shelf,
+        )?;
         let Some(next) = made else {
             return Ok(Verdict::Limit);
         };

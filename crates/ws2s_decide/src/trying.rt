@@ -46,7 +46,8 @@ pub(crate) fn tried(
     if let Some(verdict) = tried_by_network(alloc, interner, id, made, weigh, first, limit) {
         return Ok(verdict);
     }
-    first.verdict(alloc, interner, made, once, weigh, limit)
+    let verdict = first.verdict(alloc, interner, made, once, weigh, limit)?;
+    Ok(verdict)
 }
 
 /// The verdict by the formula's network; `None` where it has none, or that says nothing.
