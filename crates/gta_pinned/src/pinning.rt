@@ -10,6 +10,8 @@ ghost use Rattle.gta_core.specs.Auto.{automaton_of, IsAuto};
 ghost use Rattle.gta_core.specs.Changes.{RegistersTable};
 ghost use Rattle.gta_pinned.specs.Alike.{AreAlikeOn};
 
+use crate::parts::{only, parts};
+use crate::states::shapes_of;
 use bdd_nodes::Shelf;
 use bdd_walk::Stop;
 use gta_core::Auto;
@@ -21,10 +23,11 @@ use ws2s_core::{Guide, LabelTree, TrackList};
 ///
 /// # Errors
 ///
-/// `Limit` where the shelf has no room for a node. Want of memory, also where a space has more shapes than there are state
-/// numbers, or the roots are more than a `u32` counts. After a stop no table is left.
+/// `Limit` where the shelf has no room for a node, or where the table of a space would have more than 16 roots for each node of
+/// the limit. Want of memory, also where a space has more shapes than there are state numbers, or the roots are more than a
+/// `u32` counts. After a stop no table is left.
 pub fn pinned(
-    _alloc: Global,
+    alloc: Global,
     g: &Guide,
     tree: &LabelTree,
     tracks: &TrackList,
@@ -42,7 +45,10 @@ pub fn pinned(
     ensures same_limit { limit_of shelf.new ≡ limit_of shelf.old }
     ensures shelf { IsShelf shelf.new }
 {
-    // Only for their clauses `shelf` and `guide`.
-    let _ = (shelf.count(), g.children(0));
-    Err(Stop::NoMemory)
+    let limit = shelf.limit();
+    let made = shapes_of(alloc, g, tree, tracks, shelf)?;
+    let spaces = parts(alloc, g, &made.shapes, limit, shelf)?;
+    let accepting = only(alloc, made.root, made.shapes[0].len() as u32 + 1)?;
+    let auto = Auto::build(alloc, g, spaces, accepting, shelf)?;
+    Ok(auto)
 }

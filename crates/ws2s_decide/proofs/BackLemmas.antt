@@ -61,11 +61,12 @@ gone-step false rest h = inr h
 
 gone-contains : (formulas : List Formula) (gone : List Elimination) (t : Track) → is_gone gone t ≡ true → Contains (tracks_of (gone_at formulas gone)) t.0
 gone-contains formulas [] t h = absurd (false≢true h)
-gone-contains formulas (e ∷ gone) t h = elim (gone-step (eqb e.track.0 t.0) (is_gone gone t) h) as (λ _. Contains (tracks_of (gone_at formulas (e ∷ gone))) t.0) [
-  | inl here ↦ subst (λ (n : ℕ). Contains (tracks_of (gone_at formulas (e ∷ gone))) n) (eqb-true e.track.0 t.0 here)
-      (Contains-first e.track.0 (tracks_of (gone_at formulas gone)))
-  | inr later ↦ Contains-later e.track.0 t.0 (tracks_of (gone_at formulas gone)) (gone-contains formulas gone t later)
-]
+gone-contains formulas (e ∷ gone) t h = elim (gone-step (eqb e.track.0 t.0) (is_gone gone t) h) as
+    (λ _. Contains (tracks_of (gone_at formulas (e ∷ gone))) t.0) [
+      | inl here ↦ subst (λ (n : ℕ). Contains (tracks_of (gone_at formulas (e ∷ gone))) n) (eqb-true e.track.0 t.0 here)
+          (Contains-first e.track.0 (tracks_of (gone_at formulas gone)))
+      | inr later ↦ Contains-later e.track.0 t.0 (tracks_of (gone_at formulas gone)) (gone-contains formulas gone t later)
+    ]
 
 filtered-step : {X : Type 0} (p : X → Bool) (y x : X) (ys : List X) (b : Bool) → p y ≡ b → p x ≡ true → (Contains ys x → Contains (filter p ys) x) →
     (y ≡ x) ⊎ Contains ys x → Contains (cond b (y ∷ filter p ys) (filter p ys)) x
@@ -153,7 +154,8 @@ module _ (formulas : List Formula) (weigh : List Track) (f : Formula) (network :
           | inr h ↦ absurd (gone-unweighed (each_once weigh) (gone_at formulas gone) (f ∷ []) left u are listed h)
         ]
 
-  pub IsModelOfLeft-step : (before : List Elimination) (last : Elimination) (all : List Elimination) (known : List Track) (nodes new : List TreeNode) (w v : ℕ) →
+  pub IsModelOfLeft-step : (before : List Elimination) (last : Elimination) (all : List Elimination) (known : List Track)
+      (nodes new : List TreeNode) (w v : ℕ) →
       all ≡ before ++ last ∷ [] → known ≡ filter (λ t. not (is_gone all t)) network.tracks → IsModelOfLeft formulas weigh f all nodes w →
       IsValued weigh known (formula_of formulas last.bucket) nodes new v → IsModelOfLeft formulas weigh f before new v
   IsModelOfLeft-step before last all known nodes new w v e of model valued =
@@ -169,7 +171,8 @@ module _ (formulas : List Formula) (weigh : List Track) (f : Formula) (network :
       record {
         left = parts.0;
         eliminated = parts.1;
-        satisfies = value-found (Contains (numbers known)) last.track.0 bucket parts.0 model.left a b parts.3 (dependent all known of model.left model.eliminated)
+        satisfies = value-found (Contains (numbers known)) last.track.0 bucket parts.0 model.left a b parts.3
+            (dependent all known of model.left model.eliminated)
             (finite-tree nodes) (finite-tree new) (alike-known all known of a b valued.alike) model.satisfies valued.satisfies;
         weighs = valued.weighs;
         room = valued.room;
@@ -202,7 +205,8 @@ module _ (g : Spaces) where
   Releases-nothing shelf autos holds = record { holds = holds; tables = λ a there. KeepsTable-same shelf a.table; limit = refl }
 
   -- one was made, and what followed held it and the others; then it is released
-  module _ (old made used new : Contents) (c : AutoView) (autos : List AutoView) (holds : Holds g old autos) (made_shelf : IsShelf made) (keeps : Keeps old made)
+  module _ (old made used new : Contents) (c : AutoView) (autos : List AutoView) (holds : Holds g old autos) (made_shelf : IsShelf made)
+      (keeps : Keeps old made)
       (registers : RegistersTable old made c.table) (auto : IsAuto g made c) where
     tables-made : KeepsTables old made autos
     tables-made a there = kept-registers g old made c autos holds made_shelf keeps registers auto a there

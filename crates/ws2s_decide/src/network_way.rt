@@ -2,6 +2,7 @@
 //! decided, and their values are found afterwards, the last one first.
 
 ghost use Rattle.std.specs.Prelude.{◌≡◌, List, [], All, Some, IfOk, IfSome, slice_get};
+ghost use Rattle.gta_theory.specs.Guides.{IsGuide};
 ghost use Rattle.ws2s_core.specs.declared.formula.Formula.{Formula};
 ghost use Rattle.ws2s_context.specs.Conjuncts.{IsThere};
 ghost use Rattle.ws2s_plan.specs.Plan.{IsNetworkOf};
@@ -69,6 +70,7 @@ fn go_back(
     kept: &mut Kept,
     shelf: &mut Shelf,
 ) -> Result<Verdict, NoMemory>
+    requires guide { IsGuide g.now }
     requires there { All (λ one. IsThere interner.now one.bucket) network.now.eliminations }
     requires rests { Rests g.now interner.now shelf.old [] kept.old }
     ensures value { IfOk result (λ verdict. (f : Formula) → IsNetworkOf interner.now weigh.now f network.now →

@@ -37,14 +37,13 @@ pub(crate) fn valued(
     kept: &mut Kept,
     shelf: &mut Shelf,
 ) -> Result<Option<(LabelTree, u64)>, NoMemory>
+    requires guide { IsGuide g.now }
     requires there { (f : Formula) × (slice_get interner.now bucket.0 ≡ Some f) }
     requires rests { Rests g.now interner.now shelf.old [] kept.old }
     ensures value { IfOk result (λ made. IfSome made (λ found. (f : Formula) → slice_get interner.now bucket.0 ≡ Some f →
         IsValued weigh.now known.now f tree.now found.0 found.1)) }
     ensures rests { Rests g.now interner.now shelf.new [] kept.new }
 {
-    // Only for its clause `guide`.
-    let _ = g.spaces();
     let to_the_end = Way {
         stops_early: false,
         once: false,

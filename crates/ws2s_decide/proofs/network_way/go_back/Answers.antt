@@ -14,7 +14,8 @@ use Rattle.ws2s_decide.proofs.network_way.go_back.Goals as goal
 pub loop-last-init : goal.loop-last-init
 loop-last-init c = record {
   rests = c.requires.rests;
-  there = subst (λ (es : List Elimination). All (λ (one : Elimination). IsThere c.args.interner.now one.bucket) es) (sym c.as_slice-rest.ensures) c.requires.there;
+  there = subst (λ (es : List Elimination). All (λ (one : Elimination). IsThere c.args.interner.now one.bucket) es)
+      (sym c.as_slice-rest.ensures) c.requires.there;
   value = λ f is model.
       subst (λ (es : List Elimination). IsModelOfLeft c.args.interner.now c.args.weigh.now f es c.args.tree c.args.weight) (sym c.as_slice-rest.ensures) model;
 }

@@ -16,7 +16,8 @@ returns-in-Ok-clause-value c =
     let shelf = c.automaton_of.new.shelf in
     let auto = c.in-Ok.auto in
     let weigh = c.args.weigh.now in
-    found-weaker (λ (found : List TreeNode × ℕ). (f : Formula) → IsMinimalFor g shelf auto f → IsValued weigh c.args.known.now f c.args.tree.now found.0 found.1)
+    found-weaker (λ (found : List TreeNode × ℕ). (f : Formula) → IsMinimalFor g shelf auto f →
+    IsValued weigh c.args.known.now f c.args.tree.now found.0 found.1)
     (λ (found : List TreeNode × ℕ). (f : Formula) → slice_get c.args.interner.now c.args.bucket.0 ≡ Some f →
     IsValued weigh c.args.known.now f c.args.tree.now found.0 found.1)
     (λ found h f e. h f (c.in-Ok.ensures.minimal f e)) c.valued_by.result c.valued_by.ensures.value

@@ -56,7 +56,7 @@ returns-clause-still c = λ autos holds.
     let old = c.args.shelf.now in
     let made = c.pinned.new.shelf in
     let pins = c.in-Ok.pins in
-    Releases-made g old made c.tree_of_both-found.new.shelf c.release.new.shelf pins autos holds c.pinned.ensures.shelf c.pinned.ensures.kept c.in-Ok.ensures.table
-    c.in-Ok.ensures.auto c.pinned.ensures.same_limit
+    Releases-made g old made c.tree_of_both-found.new.shelf c.release.new.shelf pins autos holds c.pinned.ensures.shelf c.pinned.ensures.kept
+    c.in-Ok.ensures.table c.in-Ok.ensures.auto c.pinned.ensures.same_limit
     (c.tree_of_both-found.ensures.still (pins ∷ autos) (Holds-registers g old made pins autos holds c.pinned.ensures.shelf c.pinned.ensures.kept
     c.in-Ok.ensures.table c.in-Ok.ensures.auto)) c.release.ensures.shelf c.release.ensures.dropped
