@@ -15,6 +15,8 @@ returns c = λ formulas known t free.
     let fact = c.in-Some.fact.now in
     let keys : List ℕ = fact.tracks.keys in
     let h = items_from_extend c.extend.result c.extend.ensures.ran (YieldsList-from_copied (YieldsList-from_rest keys cc)) in
-    let e : c.extend.new.self.items ≡ keys = (on-ok c.extend.result c.in_ok-extend.field-0 c.in_ok-extend.was h).0 ∙ ap (λ (xs : List ℕ). xs ++ keys) c.new-numbers.ensures.items in
-    let found : IsTrue (contains nat_eq fact.tracks t) = free-of formulas fact c.args.id t (c.in-Some.ensures.fact formulas known) c.in-Some.ensures.id ∙ free in
+    let e : c.extend.new.self.items ≡ keys = (on-ok c.extend.result c.in_ok-extend.field-0 c.in_ok-extend.was h).0
+    ∙ ap (λ (xs : List ℕ). xs ++ keys) c.new-numbers.ensures.items in
+    let found : IsTrue (contains nat_eq fact.tracks t) = free-of formulas fact c.args.id t (c.in-Some.ensures.fact formulas known)
+    c.in-Some.ensures.id ∙ free in
     subst (λ (xs : List ℕ). Contains xs t) (sym e) ((hash_set_contains_iff nat_eq_equiv exact_unsigned_eq fact.tracks t).0 found)
