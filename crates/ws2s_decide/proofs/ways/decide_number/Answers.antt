@@ -34,11 +34,11 @@ verdict_of-requires-clause-rests c =
 
 pub verdict_of-requires-clause-there : goal.verdict_of-requires-clause-there
 verdict_of-requires-clause-there c =
-    let f = c.requires.there.0 in (
-      f,
-      there-still c.args.interner.now c.tried.new.interner c.args.id.0 f
-          (Extends-trans c.args.interner.now c.easier_than.new.interner c.tried.new.interner c.easier_than.ensures.kept c.tried.ensures.kept) c.requires.there.1,
-    )
+    let f = c.requires.there.0 in
+    let old = c.args.interner.now in
+    let new = c.tried.new.interner in
+    let extends = Extends-trans old c.easier_than.new.interner new c.easier_than.ensures.kept c.tried.ensures.kept in
+    (f, there-still old new c.args.id.0 f extends c.requires.there.1)
 
 pub returns-in-Ok-None-clause-value : goal.returns-in-Ok-None-clause-value
 returns-in-Ok-None-clause-value c = λ f there.
