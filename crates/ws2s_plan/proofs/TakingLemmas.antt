@@ -1,38 +1,27 @@
 -- On formulas taken apart into their conjuncts, by numbers.
-use Rattle.std.proofs.Common.{◌≡◌, ℕ, ◌≤◌, ◌↔◌, ◌⊎◌, inl, inr, true, false, List, [], ◌∷◌, ◌++◌, length, take, drop, All, Contains}
-use Rattle.std.proofs.Common.{refl, sym, ap, ap₂, subst, ◌∙◌, arith}
-use Rattle.std.proofs.Common.{Option, None, Some, IfSome, slice_get, Bool, ◌<◌, ◌+◌, nat_eq, filter, cond, get_or}
+use Rattle.std.proofs.Common.{◌≡◌, ℕ, ◌↔◌, ◌⊎◌, inl, inr, true, false, List, [], ◌∷◌, ◌++◌, length, take, drop, All, Contains}
+use Rattle.std.proofs.Common.{refl, sym, ap, subst, ◌∙◌, arith}
+use Rattle.std.proofs.Common.{Bool, ◌<◌, ◌+◌, nat_eq, filter, cond, get_or}
 use Rattle.std.specs.HashSet.{contains}
 use Rattle.std.specs.List.{insert}
 use Rattle.std.proofs.lemmas.Bool.{false≢true}
-use Rattle.std.proofs.lemmas.List.{take-append-drop, map-append, length-append}
-use Rattle.std.proofs.lemmas.List.Elements.{All-nil, All-cons, All-head, All-tail, All-append, All-take, All-drop, All-map, All-weaker}
+use Rattle.std.proofs.lemmas.List.{take-append-drop}
+use Rattle.std.proofs.lemmas.List.Elements.{All-nil, All-cons, All-head, All-tail, All-append, All-take, All-drop, All-map}
 use Rattle.std.proofs.lemmas.List.Elements.{filter_more, Contains-append_left, Contains-append_right}
-use Rattle.gta_theory.specs.Assignments.{Assignment, IsFinite}
-use Rattle.gta_theory.proofs.ListsLemmas.{Contains-mapped, Contains-first}
-use Rattle.ws2s_core.specs.declared.track.Track.{Track}
+use Rattle.gta_theory.specs.Assignments.{Assignment}
+use Rattle.gta_theory.proofs.ListsLemmas.{Contains-first}
 use Rattle.ws2s_core.specs.declared.formula.Formula.{Formula}
-use Rattle.ws2s_core.specs.declared.formula.Formula.TheVariants.{And, Ex2}
+use Rattle.ws2s_core.specs.declared.formula.Formula.TheVariants.{And}
 use Rattle.ws2s_core.specs.declared.node.FormulaId.{FormulaId}
 use Rattle.ws2s_core.specs.Nodes.{Extends}
 use Rattle.ws2s_core.specs.Satisfaction.{WSat}
-use Rattle.ws2s_core.specs.Tracks.{IsFree}
-use Rattle.ws2s_core.proofs.NodesLemmas.{at-formula_at, formula_at-is}
 use Rattle.ws2s_core.proofs.SatisfactionLemmas.{WSat-And}
 use Rattle.ws2s_theory.specs.Contexts.{SatisfiesAll}
 use Rattle.ws2s_context.specs.Conjuncts.{IsThere, formula_of, formulas_at}
-use Rattle.ws2s_context.proofs.ConjunctsLemmas.{All-contains, at-extends, there-extends, all_there-extends, formulas_at-extends}
+use Rattle.ws2s_context.proofs.ConjunctsLemmas.{All-contains, formulas_at-extends}
 use Rattle.ws2s_lean.specs.Conjunctions.{SatisfiesEach, IsConjunction, IsFolded}
-use Rattle.ws2s_network.specs.Network.{IsEliminated, AreEliminated, AreSame}
-use Rattle.ws2s_network.proofs.NetworkLemmas.{IsEliminated-parts, AreEliminated-more, AreEliminated-same}
-use Rattle.ws2s_plan.specs.declared.network.Elimination.{Elimination}
 use Rattle.ws2s_plan.specs.declared.conjuncts.Taking.{Taking}
-use Rattle.ws2s_plan.specs.declared.eliminating.Parted.{Parted}
-use Rattle.ws2s_plan.specs.declared.eliminating.Eliminated.{Eliminated}
-use Rattle.ws2s_plan.specs.declared.planning.Planning.{Planning}
-use Rattle.ws2s_plan.specs.declared.network.Network.{Network}
-use Rattle.ws2s_plan.specs.Plan.{AreAllTracks, IsNetworkOf, gone_at}
-use Rattle.ws2s_plan.specs.Steps.{AreHalves, IsTaking, IsParted, IsEliminatedBy, IsPlanning}
+use Rattle.ws2s_plan.specs.Steps.{AreHalves, IsTaking}
 
 -- ---- lists
 
