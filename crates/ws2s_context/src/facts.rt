@@ -19,29 +19,29 @@ const MANY_TRACKS: usize = 256;
 
 /// What is known of a formula.
 #[derive(Drop)]
-pub(crate) struct Fact {
-    pub(crate) id: FormulaId,
+pub struct Fact {
+    pub id: FormulaId,
     /// The numbers of its free tracks.
-    pub(crate) tracks: HashSet<u32>,
+    pub tracks: HashSet<u32>,
     /// How many nodes it has as a tree, or the greatest number where it has more.
     size: u32,
 }
 
 /// What is known of the parts of a formula. Nothing is known of those with too many free tracks.
 #[derive(Drop)]
-pub(crate) struct Facts {
-    pub(crate) facts: Vec<Fact>,
+pub struct Facts {
+    pub facts: Vec<Fact>,
     /// Where the fact about a formula stands.
     places: HashMap<FormulaId, usize>,
 }
 
 impl Facts {
     /// What is known of all parts of a formula.
-    pub(crate) fn of_parts(
-        alloc: Global,
-        interner: &Interner,
-        id: FormulaId,
-    ) -> Result<Facts, AllocError>
+    ///
+    /// # Errors
+    ///
+    /// Want of memory.
+    pub fn of_parts(alloc: Global, interner: &Interner, id: FormulaId) -> Result<Facts, AllocError>
         requires { IsThere interner.now id }
         ensures { IfOk result (λ facts. AreFacts interner.now facts.facts.items) }
     {
@@ -57,7 +57,7 @@ impl Facts {
     }
 
     /// What is known of a formula.
-    pub(crate) fn get(&self, id: FormulaId) -> Option<&Fact>
+    pub fn get(&self, id: FormulaId) -> Option<&Fact>
         ensures id { IfSome result (λ fact. fact.now.id ≡ id) }
         ensures fact { IfSome result (λ fact. (formulas : List Formula) → AreFacts formulas self.now.facts.items → IsFact formulas fact.now) }
     {
@@ -67,6 +67,23 @@ impl Facts {
             return Some(fact);
         }
         None
+    }
+
+    /// The numbers of a formula's free tracks. `None` where they aren't known.
+    ///
+    /// # Errors
+    ///
+    /// Want of memory.
+    pub fn free_tracks(&self, alloc: Global, id: FormulaId) -> Result<Option<Vec<u32>>, AllocError>
+        ensures { IfOk result (λ found. IfSome found (λ numbers. (formulas : List Formula) → AreFacts formulas self.now.facts.items → (t : ℕ) →
+            IsFree t (formula_of formulas id) → Contains numbers.items t)) }
+    {
+        let Some(fact) = self.get(id) else {
+            return Ok(None);
+        };
+        let mut numbers = Vec::new(alloc);
+        numbers.extend(fact.tracks.iter().copied())?;
+        Ok(Some(numbers))
     }
 
     /// Puts in what is found of a formula by what is known of its parts, unless it is known.
@@ -191,7 +208,7 @@ impl Facts {
     }
 
     /// Whether the track is known not to be free in the formula.
-    pub(crate) fn lacks(&self, id: FormulaId, t: Track) -> bool
+    pub fn lacks(&self, id: FormulaId, t: Track) -> bool
         ensures { result ≡ true → (formulas : List Formula) → AreFacts formulas self.now.facts.items →
             IsFree t.0 (formula_of formulas id) → ⊥ }
     {
@@ -220,7 +237,11 @@ impl Facts {
 }
 
 /// The number of the node's formula, of which is found what can be known of it.
-pub(crate) fn make(
+///
+/// # Errors
+///
+/// Want of memory.
+pub fn make(
     alloc: Global,
     interner: &mut Interner,
     facts: &mut Facts,

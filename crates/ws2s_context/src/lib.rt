@@ -22,5 +22,6 @@ mod tracks;
 mod uses;
 mod visiting;
 
+pub use facts::{Fact, Facts, make};
 pub use opening::opened;
 pub use rewriting::in_context;

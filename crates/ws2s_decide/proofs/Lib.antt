@@ -1,5 +1,6 @@
 pub mod ComplementLemmas
 pub mod CountingLemmas
+pub mod BackLemmas
 pub mod EndsLemmas
 pub mod FitsLemmas
 pub mod KeepingLemmas

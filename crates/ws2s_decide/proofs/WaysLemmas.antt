@@ -47,7 +47,7 @@ each_once-step track tracks t rest true h = Contains-later track tracks t (rest 
 each_once-step track tracks t rest false (zero, below, e) = (0, omega arith, ap (λ (n : ℕ). let u : Track = record { 0 = n } in u) e)
 each_once-step track tracks t rest false (suc k, below, e) = Contains-later track tracks t (rest (k, omega (arith, below), e))
 
-each_once-of : (tracks : List Track) → AreOf tracks (each_once tracks)
+pub each_once-of : (tracks : List Track) → AreOf tracks (each_once tracks)
 each_once-of [] t (k, below, e) = absurd (no-below k below)
   where
     no-below : (k : ℕ) → k < 0 → ⊥

@@ -4,6 +4,7 @@ ghost use Rattle.std.specs.Prelude.{◌≡◌, ◌<◌, ℕ, [], Some, Ok, IfOk,
 ghost use Rattle.bdd_nodes.specs.Shelf.{IsShelf, limit_of};
 ghost use Rattle.bdd_nodes.specs.Changes.{DropsTable};
 ghost use Rattle.gta_core.specs.Auto.{IsAuto};
+ghost use Rattle.gta_theory.specs.Guides.{IsGuide};
 ghost use Rattle.ws2s_core.specs.declared.formula.Formula.{Formula};
 ghost use Rattle.ws2s_theory.specs.Peaks.{HasPeak};
 ghost use Rattle.ws2s_decide.specs.declared.verdict.Verdict.{Verdict};
@@ -44,6 +45,7 @@ pub(crate) fn verdict_of(
         limit_of shelf.old < p }
     ensures rests { Rests g.now interner.now shelf.new [] kept.new }
     ensures same_limit { limit_of shelf.new ≡ limit_of shelf.old }
+    ensures guide { IsGuide g.now }
 {
     // Only for its clause `guide`.
     let _ = g.spaces();

@@ -3,10 +3,12 @@
 ghost use Rattle.std.specs.Prelude.{◌≡◌, ◌≤◌, Some, List, IfOk, IfSome, slice_get};
 ghost use Rattle.gta_theory.specs.Guides.{Spaces};
 ghost use Rattle.ws2s_core.specs.declared.formula.Formula.{Formula};
+ghost use Rattle.ws2s_plan.specs.Plan.{IsNetworkOf};
 ghost use Rattle.ws2s_decide.specs.Deciding.{IsVerdict};
 ghost use Rattle.ws2s_decide.specs.Own.{HoldsItsOwn, IsReady};
 
 use crate::deciding::verdict_of;
+use crate::network_way::verdict_by_network;
 use crate::verdict::Verdict;
 use crate::way::Way;
 use bdd_nodes::Shelf;
@@ -14,6 +16,7 @@ use bdd_walk::NoMemory;
 use gta_keep::Kept;
 use std::alloc::Global;
 use ws2s_core::{FormulaId, Guide, Interner, TrackList};
+use ws2s_plan::Network;
 
 /// How many nodes the first way's shelf may have at least. In a small one automata are let go of and made again and again.
 const FEWEST_NODES: u32 = 200_000;
@@ -91,6 +94,29 @@ impl FirstWay {
             &mut self.room,
         )
     }
+
+    /// The verdict on a formula by its network, in the room. A limit says nothing.
+    ///
+    /// # Errors
+    ///
+    /// Want of memory, also where a projection has no room for its sets.
+    pub(crate) fn verdict_by(
+        &mut self,
+        alloc: Global,
+        interner: &Interner,
+        network: &Network,
+        weigh: &TrackList,
+        limit: u32,
+    ) -> Result<Verdict, NoMemory>
+        requires there { (f : Formula) × IsNetworkOf interner.now weigh.now f network.now }
+        requires small { limit ≤ 16000000 }
+        requires ready { IsReady interner.now self.old }
+        ensures value { IfOk result (λ verdict. (f : Formula) → IsNetworkOf interner.now weigh.now f network.now → IsVerdict weigh.now f verdict) }
+        ensures ready { IsReady interner.now self.new }
+    {
+        self.open(alloc, limit)?;
+        verdict_by_network_in(alloc, &self.guide, interner, network, weigh, &mut self.room)
+    }
 }
 
 /// An empty room for as many nodes as the limit says, and for many at least.
@@ -133,6 +159,34 @@ fn verdict_in(
             interner,
             id,
             to_the_end,
+            weigh,
+            &mut room.kept,
+            &mut room.shelf,
+        ),
+        None => Ok(Verdict::Limit),
+    }
+}
+
+/// The verdict on a formula by its network, in the room; a limit where there is none.
+fn verdict_by_network_in(
+    alloc: Global,
+    g: &Guide,
+    interner: &Interner,
+    network: &Network,
+    weigh: &TrackList,
+    room: &mut Option<Room>,
+) -> Result<Verdict, NoMemory>
+    requires there { (f : Formula) × IsNetworkOf interner.now weigh.now f network.now }
+    requires ready { IfSome room.old (HoldsItsOwn g.now interner.now) }
+    ensures value { IfOk result (λ verdict. (f : Formula) → IsNetworkOf interner.now weigh.now f network.now → IsVerdict weigh.now f verdict) }
+    ensures ready { IfSome room.new (HoldsItsOwn g.now interner.now) }
+{
+    match room {
+        Some(room) => verdict_by_network(
+            alloc,
+            g,
+            interner,
+            network,
             weigh,
             &mut room.kept,
             &mut room.shelf,

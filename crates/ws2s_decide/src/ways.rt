@@ -14,6 +14,7 @@ ghost use Rattle.ws2s_decide.specs.Own.{IsReady};
 
 use crate::deciding::verdict_of;
 use crate::first_way::FirstWay;
+use crate::trying::tried;
 use crate::verdict::Verdict;
 use crate::way::Way;
 use bdd_nodes::Shelf;
@@ -140,7 +141,7 @@ pub(crate) fn decide_number(
         return verdict_alone(alloc, g, interner, id, once, weigh, kept, shelf);
     };
     let limit = shelf.limit();
-    match first.verdict(alloc, interner, made, once, weigh, limit) {
+    match tried(alloc, interner, id, made, once, weigh, first, limit) {
         Ok(Verdict::None) => Ok(Verdict::None),
         Ok(Verdict::Witness(tree, weight)) => Ok(Verdict::Witness(tree, weight)),
         Ok(Verdict::TooLarge) | Ok(Verdict::Limit) | Err(_) => {
