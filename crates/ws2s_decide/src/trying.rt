@@ -17,7 +17,7 @@ use ws2s_core::{FormulaId, Interner, Track, TrackList};
 use ws2s_plan::{Network, network_of};
 
 /// With fewer variables none is eliminated.
-const MANY_VARIABLES: usize = 4;
+const MANY_VARIABLES: usize = 6;
 
 /// The verdict on the formula with the number `made`, which was made of the one with the number `id`, under the first way's guide and in its
 /// room. A limit says only that the room was too small.
