@@ -70,7 +70,9 @@ def habit_at(source, finding):
     last = before[-1].text if before else ""
     rest = line.encode()[finding.column - 1:].decode("utf-8", "replace")
     for word, hint in HABITS.items():
-        if text == word or rest.startswith(word) or last == word and not word.isalpha():
+        if text == word or not word.isalpha() and (rest.startswith(word) or last == word):
+            return hint
+        if last == word and found and found.kind == "name":
             return hint
     if (last, text) == ("-", ">") or rest.startswith("->"):
         return HABITS["->"]
