@@ -14,7 +14,7 @@ Pages, *.md at the top and in docs/, by the words behind the three backquotes:
   pale MODE ..  a text that `PROGRAM MODE ..` reads
   pale FILE     a text that is written to FILE, for the commands of that page
   sh            commands, run by `sh` in a folder of their own for the page, in which
-                `pale` is PROGRAM and `examples` is the folder of that name
+                `pale` is PROGRAM, `palec` calls it, and `examples` is the folder of that name
   status N      what the text or the commands before it write, and the status
 A `pale MODE` or `sh` block without a `status` block right behind it isn't run. In docs/pale.1
 the examples are run: a line `$ COMMAND`, and what stands below it. The bundle of crates/pale_gallery
@@ -45,6 +45,7 @@ import tempfile
 import make_gallery
 from stored import DOCS, EXAMPLES, MODES, blocks, example_files, from_top, pages, read, status_of, write
 
+PALEC = os.path.join(os.path.dirname(os.path.abspath(__file__)), "palec")
 FAILING = re.compile(r"^triple (\d+) \S+ line \d+ invalid (\S+ line \d+)\n(store\n(?:(?:var|cell) .*\n)*end\n)", re.M)
 
 
@@ -67,7 +68,8 @@ class Runner:
         """The status, which is None where the time was over, and what was written."""
         env = dict(os.environ)
         if path:
-            env["PATH"] = path + os.pathsep + env.get("PATH", "")
+            env["PATH"] = os.pathsep.join([path, PALEC, env.get("PATH", "")])
+            env["PALE"] = self.program
         before = resource.getrusage(resource.RUSAGE_CHILDREN)
         try:
             done = subprocess.run(self.before + words, input=text.encode(), stdout=subprocess.PIPE,

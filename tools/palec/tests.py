@@ -1,9 +1,13 @@
 """Tests of palec: `python3 -m unittest tests` in tools/palec. They call the program that PALE names, else crates/pale/out/pale."""
 import io
 import json
+import os
+import shutil
+import signal
 import subprocess
 import sys
 import tempfile
+import time
 import unittest
 from contextlib import redirect_stderr, redirect_stdout
 from pathlib import Path
@@ -73,7 +77,12 @@ class Calls(unittest.TestCase):
     def test_formats_for_machines_are_well_formed(self):
         path = HERE / "mistakes" / "lost_cell.pale"
         log = json.loads(told("check", path, "--format", "sarif")[1])
-        self.assertEqual((log["version"], log["runs"][0]["results"][0]["ruleId"]), ("2.1.0", "triple/leak"))
+        driver, result = log["runs"][0]["tool"]["driver"], log["runs"][0]["results"][0]
+        place = result["locations"][0]["physicalLocation"]
+        # what the schema of SARIF 2.1.0 requires, and what viewers need to show a place
+        self.assertEqual((log["version"], driver["name"], result["ruleId"]), ("2.1.0", "palec", "triple/leak"))
+        self.assertIn(result["ruleId"], [it["id"] for it in driver["rules"]])
+        self.assertTrue(result["message"]["text"] and place["artifactLocation"]["uri"] and place["region"]["startLine"] >= 1)
         self.assertTrue(told("check", path, "--format", "github")[1].startswith("::error file="))
 
     def test_jobs_are_run_by_a_shell_and_gathered(self):
@@ -92,6 +101,67 @@ class Calls(unittest.TestCase):
                 (Path(room) / name).write_bytes(data)
                 self.assertNotIn("Traceback", told("check", Path(room) / name)[1])
             self.assertEqual(told("check", Path(room) / "none")[0], 2)
+
+
+    def test_a_page_holds_no_word_of_the_text_as_markup(self):
+        with tempfile.TemporaryDirectory() as room:
+            path = Path(room) / "<script>x.pale"
+            path.write_text("# </script><script>alert(1)</script>\n" + (HERE / "mistakes" / "lost_cell.pale").read_text())
+            self.assertEqual(told("report", path, "-o", Path(room) / "out.html")[0], 1)
+            page = (Path(room) / "out.html").read_text()
+        self.assertEqual((page.count("<script"), page.count("</script>")), (2, 2))
+        self.assertIn("&lt;script&gt;alert(1)", page)
+
+    def test_the_steps_of_a_mistake_are_explained(self):
+        status, output = told("explain", HERE / "mistakes" / "back_pointer.pale")
+        self.assertEqual(status, 1)
+        for piece in ("step 1, line 3: y = new Dbl;", "cell 2 is made, of type Dbl", "step 3, line 4: y.next = x;", "2     Dbl   1*    null"):
+            self.assertIn(piece, output)
+
+    def test_a_job_runner_of_the_distribution_runs_the_jobs(self):
+        runner = shutil.which("parallel")
+        if not runner:
+            self.skipTest("GNU parallel isn't installed")
+        with tempfile.TemporaryDirectory() as room:
+            _, lines = told("jobs", EXAMPLES / "mistakes" / "leak.pale", HERE / "mistakes" / "null_read.pale", "--into", Path(room) / "out")
+            subprocess.run([runner, "--will-cite", "-j", "4"], input=lines.encode(), check=True, stdout=subprocess.DEVNULL, stderr=subprocess.DEVNULL)
+            status, output = told("gather", Path(room) / "out")
+        self.assertEqual(status, 1)
+        self.assertIn(f"\n{len(lines.splitlines())} jobs, ", output)
+
+
+class Stopping(unittest.TestCase):
+    """What becomes of calls that don't end, with a program that sleeps in place of pale."""
+
+    def call(self, room, *words):
+        """palec as a process, and the mark by which the sleeping program's processes are found."""
+        mark = f"{time.time_ns() % 10**9 + 10**9}"
+        program = Path(room) / "pale"
+        program.write_text(f"#!/bin/sh\nexec sleep {mark}\n")
+        program.chmod(0o755)
+        (Path(room) / "a.pale").write_text("proc p() { }\n")
+        child = subprocess.Popen([sys.executable, HERE / "palec", "check", Path(room) / "a.pale", *words], stdout=subprocess.PIPE, stderr=subprocess.STDOUT,
+                                 env={**os.environ, "PALE": str(program)})
+        return child, mark
+
+    def is_left(self, mark):
+        return any(mark.encode() in (entry / "cmdline").read_bytes() for entry in Path("/proc").iterdir() if entry.name.isdigit() and (entry / "cmdline").exists())
+
+    def test_a_call_past_its_time_is_ended_and_told(self):
+        with tempfile.TemporaryDirectory() as room:
+            child, mark = self.call(room, "--time", "0.5", "--no-meet")
+            output = child.communicate(timeout=30)[0].decode()
+            self.assertIn("no answer", output)
+            self.assertEqual((child.returncode, self.is_left(mark)), (4, False))
+
+    def test_an_interrupt_leaves_no_process_and_no_traceback(self):
+        with tempfile.TemporaryDirectory() as room:
+            child, mark = self.call(room)
+            while not self.is_left(mark):
+                time.sleep(0.05)
+            child.send_signal(signal.SIGINT)
+            output = child.communicate(timeout=30)[0].decode()
+            self.assertEqual((child.returncode, self.is_left(mark), output), (130, False, "palec: stopped\n"))
 
 
 if __name__ == "__main__":

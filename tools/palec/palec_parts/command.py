@@ -1,11 +1,14 @@
 """The words of palec."""
 import argparse
+import hashlib
 import os
 import shlex
 import sys
+from pathlib import Path
 
-from . import drawing, formats, telling
-from .judging import judge_file, request, status_of, triple_of
+from . import drawing, explaining, formats, page, telling
+from .judging import Told, fields_of, judge_file, request, status_of, triple_of
+from .progress import Progress
 from .reports import read_report
 from .running import Caller, NoProgram, find_pale
 from .sources import Source
@@ -16,8 +19,8 @@ USAGE, REFUSED = 2, 3
 
 def arguments():
     parser = argparse.ArgumentParser(prog="palec", description="Checks programs with `pale`, tells what is wrong where, and draws stores. All judging is done by the proved program `pale`.")
-    parser.add_argument("--version", action="version", version=f"palec {VERSION} around pale")
-    kinds = parser.add_subparsers(dest="kind", metavar="COMMAND", required=True)
+    parser.add_argument("--version", action="store_true", help="print the versions of palec and of the program that it calls")
+    kinds = parser.add_subparsers(dest="kind", metavar="COMMAND")
 
     def bounds(one, with_jobs=True):
         if with_jobs:
@@ -32,6 +35,17 @@ def arguments():
     check.add_argument("--no-meet", action="store_true", help="don't look for triples that no store meets")
     check.add_argument("--format", choices=["text", "json", "sarif", "github"], default="text")
     check.add_argument("--color", choices=["auto", "always", "never"], default="auto")
+
+    explain = kinds.add_parser("explain", help="tell an invalid triple step by step, with the heap after each step")
+    explain.add_argument("file", metavar="FILE")
+    explain.add_argument("--triple", type=int, metavar="K", help="the triple; else every invalid one")
+    bounds(explain)
+
+    report = kinds.add_parser("report", help="write a page for a browser: the program with its verdicts, and pictures of each invalid triple's steps")
+    report.add_argument("file", metavar="FILE")
+    report.add_argument("-o", required=True, dest="output", metavar="OUT", help="OUT.html")
+    bounds(report)
+    report.add_argument("--no-meet", action="store_true", help="don't look for triples that no store meets")
 
     draw = kinds.add_parser("draw", help="draw the store that is told of a triple, or of an ambiguous field")
     draw.add_argument("file", metavar="FILE")
@@ -66,24 +80,64 @@ def check(words, caller):
     if sources is None:
         return USAGE
     writer = telling.Writer(sys.stdout.write, is_coloured(words.color))
-    progress = sys.stderr.isatty() and words.format == "text"
-    for source in sources:
-        done = []
-
-        def on_one(told, done=done, source=source):
-            done.append(told)
-            if progress:
-                sys.stderr.write(f"\r{source.path}: {len(done)} triples done\033[K")
-
-        told = judge_file(caller, source, max(words.j, 1), not words.no_meet, on_one)
-        all_told.append(told)
-        if progress:
-            sys.stderr.write("\r\033[K")
-        if words.format == "text":
-            telling.tell_file(writer, told)
+    with Progress(caller, sys.stderr.isatty() and words.format == "text") as progress:
+        for source in sources:
+            progress.begin(source.path)
+            told = judge_file(caller, source, max(words.j, 1), not words.no_meet, progress.one, explaining.explain)
+            progress.clear()
+            all_told.append(told)
+            if words.format == "text":
+                telling.tell_file(writer, told)
     if words.format != "text":
         sys.stdout.write({"json": formats.as_json, "github": formats.as_github, "sarif": lambda told: formats.as_sarif(told, VERSION)}[words.format](all_told))
     return status_of(all_told)
+
+
+def invalid_triples(words, caller, source):
+    """The invalid triple of the number that was given, or all that are invalid; and what else was told."""
+    if words.triple is None:
+        found = judge_file(caller, source, max(words.j, 1), False).findings
+    else:
+        found = fields_of(caller, source) or [it for it in [triple_of(caller, source, words.triple)] if it]
+    return [it for it in found if it.verdict == "invalid"], [it for it in found if it.verdict not in ("invalid", "valid")], bool(found)
+
+
+def explain(words, caller):
+    """Each invalid triple: what is wrong, its start, its steps, and which parts of an assertion are false."""
+    sources = sources_of([words.file])
+    if sources is None:
+        return USAGE
+    source = sources[0]
+    writer = telling.Writer(sys.stdout.write, is_coloured("auto"))
+    invalid, others, is_there = invalid_triples(words, caller, source)
+    if not is_there:
+        print(f"palec: there is no triple {words.triple}" if words.triple else "palec: there is no triple", file=sys.stderr)
+        return USAGE
+    for finding in invalid:
+        told = explaining.explain(caller, source, finding)
+        telling.tell_triple(writer, source, finding, False, explaining.Explained(parts=told.parts))
+        if told.trace:
+            explaining.tell_steps(sys.stdout.write, source, told, telling.printable)
+        sys.stdout.write("\n")
+    rest = Told(source, others)
+    telling.tell_file(writer, rest, True)
+    if not invalid and not others:
+        print(f"{source.path}: nothing is invalid")
+    return status_of([Told(source, invalid + others)])
+
+
+def report(words, caller):
+    sources = sources_of([words.file])
+    if sources is None:
+        return USAGE
+    told = judge_file(caller, sources[0], max(words.j, 1), not words.no_meet, explain=explaining.explain)
+    try:
+        with open(words.output, "w", encoding="utf-8", errors="replace") as file:
+            file.write(page.as_page(told))
+    except OSError as error:
+        print(f"palec: {error.filename}: {error.strerror}", file=sys.stderr)
+        return USAGE
+    return status_of([told])
 
 
 def draw(words, caller):
@@ -145,9 +199,9 @@ def gather(words, _caller):
     counts, statuses = {}, set()
     for name in names:
         stem = os.path.join(words.folder, name[: -len(".out")])
-        output = open(f"{stem}.out", encoding="utf-8", errors="replace").read()
-        path = open(f"{stem}.file", encoding="utf-8", errors="replace").read().strip()
-        statuses.add(open(f"{stem}.status", encoding="utf-8").read().strip())
+        output, path, status = (Path(stem + end).read_text(encoding="utf-8", errors="replace") for end in (".out", ".file", ".status"))
+        path = path.strip()
+        statuses.add(status.strip())
         sys.stdout.write(f"# {path}\n{output}")
         for finding in read_report(output):
             counts[finding.verdict or finding.kind] = counts.get(finding.verdict or finding.kind, 0) + 1
@@ -155,15 +209,34 @@ def gather(words, _caller):
     return 3 if "3" in statuses else 1 if "1" in statuses else 0 if statuses <= {"0"} else 4
 
 
+def version():
+    """palec's number, and which program it calls: that has no number of its own, so its place and checksum stand for one."""
+    print(f"palec {VERSION}")
+    try:
+        program = find_pale()
+    except NoProgram as error:
+        print(f"palec: {error}", file=sys.stderr)
+        return USAGE
+    with open(program, "rb") as file:
+        print(f"pale {program}, sha256 {hashlib.file_digest(file, 'sha256').hexdigest()}")
+    return 0
+
+
 def main(given):
-    words = arguments().parse_args(given)
+    parser = arguments()
+    words = parser.parse_args(given)
+    if words.version:
+        return version()
+    if not words.kind:
+        parser.print_help(sys.stderr)
+        return USAGE
     try:
         caller = Caller(find_pale(), getattr(words, "limit", None), getattr(words, "time", None), getattr(words, "memory", None))
     except NoProgram as error:
         print(f"palec: {error}", file=sys.stderr)
         return USAGE
     try:
-        return {"check": check, "draw": draw, "jobs": jobs, "gather": gather}[words.kind](words, caller)
+        return {"check": check, "explain": explain, "report": report, "draw": draw, "jobs": jobs, "gather": gather}[words.kind](words, caller)
     except KeyboardInterrupt:
         caller.stop()
         print("palec: stopped", file=sys.stderr)

@@ -36,6 +36,13 @@ def store_of(store):
     return {"variables": dict(store.variables), "cells": cells}
 
 
+def steps_of(explained):
+    """The steps of an execution, or null where there is none."""
+    if explained is None or explained.trace is None:
+        return None
+    return [{"line": it.line, "kind": it.kind, "place": it.place or None, "value": it.value or None} for it in explained.trace.steps]
+
+
 def entries(all_told):
     """One object for each finding, and one for each start that no store meets."""
     for told in all_told:
@@ -43,11 +50,14 @@ def entries(all_told):
             if finding.kind in ("stopped", "other") and not is_fault(finding):
                 continue
             line, column = place_of(told, finding)
+            explained = told.explained.get(finding.number) if finding.kind == "triple" else None
+            parts = [it.text(told.source) for it in explained.parts] if explained else []
             yield {
                 "file": told.source.path, "kind": finding.kind, "line": line, "column": column, "verdict": finding.verdict or finding.kind,
                 "cause": finding.cause or finding.word or None, "triple": finding.number or None, "name": finding.procedure or None,
                 "starts": finding.line if finding.kind == "triple" else None, "met": finding.number not in told.unmet if finding.kind == "triple" else None,
-                "message": sentence_of(finding), "store": store_of(finding.store),
+                "message": "; ".join([sentence_of(finding), *(f"this is false: {it}" for it in parts)]), "store": store_of(finding.store),
+                "steps": steps_of(explained), "false": parts,
             }
 
 

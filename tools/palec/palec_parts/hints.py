@@ -1,4 +1,6 @@
 """What a refusal or a failure means, in a sentence, and how it is usually mended. The pages are docs/answers.md and docs/language.md."""
+import difflib
+
 from .grammar import expected_at, reserved_words
 
 REFUSALS = {
@@ -58,6 +60,25 @@ HABITS = {
     "dispose": "the word is `free`",
     "struct": "the word is `type`: `type T = { .. }`",
     "boolean": "the word is `bool`",
+    "void": "a procedure that gives nothing back has no `returns`: `proc p(..) { .. }`",
+    "int": "there are no numbers: variables are cells, or truth values of the kind `bool`",
+    "malloc": "a cell is made by `new`: `x = new T;`",
+    "elif": "an `else` is followed by braces: `else { if (..) { .. } }`",
+    "for": "the loop is `while (c) [invariant] { .. }`",
+    "do": "the loop is `while (c) [invariant] { .. }`",
+    "not": "the mark is `~` in an assertion, and `!` in a condition of code",
+    "and": "the mark is `&` in an assertion, and `&&` in a condition of code",
+    "or": "the mark is `|` in an assertion, and `||` in a condition of code",
+    "this": "there are no methods: a procedure has its cells as parameters",
+    "None": "the empty pointer is `null`",
+    "Null": "the empty pointer is `null`",
+    "True": "the word is `true`",
+    "False": "the word is `false`",
+    "predicate": "the word is `pred`",
+    "modifies": "there are no frames to be said: what a call is handed is what its data arguments reach",
+    "old": "there is no `old`: name what was there at the entry by a logic set, or a logic bool",
+    ":=": "an assignment is `x = y;`",
+    "<>": "the mark is `~=` in an assertion, and `!=` in a condition of code",
 }
 
 
@@ -74,6 +95,18 @@ def habit_at(source, finding):
             return hint
         if last == word and found and found.kind == "name":
             return hint
+    if found and found.kind == "number":
+        return "there are no numbers: a cell is compared with `null` or another cell, and a truth value stands alone"
+    if text == "!" and inside_of(source, finding):
+        return "in an assertion the mark is `~`; `!` belongs to conditions of code"
+    if text == "~" and not inside_of(source, finding):
+        return "in a condition of code the mark is `!`; `~` belongs to assertions"
+    if text in ("true", "false") and last in ("==", "!=", "=", "~="):
+        return "a truth value isn't compared: it stands alone, as `b` or `!b`"
+    if text in ("data", "pointer", "bool") and last in (";", "}") and scope_of(source, finding):
+        return "locals are declared at the top of a body, before its statements"
+    if last in HABITS and text == "(":
+        return HABITS[last]
     if (last, text) == ("-", ">") or rest.startswith("->"):
         return HABITS["->"]
     if text == "if" and last == "else":
@@ -99,6 +132,72 @@ def habit_at(source, finding):
     return ""
 
 
+def word_at(source, finding):
+    """What stands here for a word of another language that is taken for a name."""
+    found = source.token_at(finding.line, finding.column)
+    return HABITS.get(found.text, "") if found else ""
+
+
+def scope_of(source, finding):
+    """The names of the procedure around a place, each with how it was declared: as the words `parameter`, `result`, `logic` or `local`."""
+    names, part, depth = {}, "", 0
+    for place, token in enumerate(source.tokens()):
+        if (token.line, token.column) >= (finding.line, finding.column):
+            break
+        if token.text in ("proc", "pred", "type") and depth == 0:
+            names, part = {}, "parameter" if token.text == "proc" else ""
+        part = {"returns": "result", "logic": "logic", "pre": "", "post": ""}.get(token.text, part) if depth == 0 else part
+        depth += {"{": 1, "}": -1}.get(token.text, 0)
+        following = source.tokens()[place + 1]
+        if part and token.text in ("data", "pointer", "bool", "set") and following.kind == "name":
+            names[following.text] = "local" if depth else part
+        if token.text == "{" and depth == 1 and part:
+            part = "local"
+    return names
+
+
+def inside_of(source, finding):
+    """Which assertion's brackets are open at a place: `pre`, `post`, another word, or nothing."""
+    opened = []
+    tokens = [it for it in source.tokens() if (it.line, it.column) < (finding.line, finding.column)]
+    for place, token in enumerate(tokens):
+        if token.text == "[":
+            opened.append(tokens[place - 1].text if place else "")
+        elif token.text == "]" and opened:
+            opened.pop()
+    return opened[-1] if opened else ""
+
+
+def help_on_name(source, finding):
+    """What is known of a name that can't stand here."""
+    found = source.token_at(finding.line, finding.column)
+    name = found.text if found else ""
+    how, where = scope_of(source, finding).get(name, ""), inside_of(source, finding)
+    if how == "logic" and not where:
+        return "a logic variable is for assertions alone: code can't read or set it"
+    if how == "result" and where == "pre":
+        return "`pre` speaks of the entry, where results are null: it names parameters and logic variables"
+    if where == "post" and how == "parameter":
+        return "`post` names results and logic variables: what a parameter had is kept by a logic set, `pre [x in S]`"
+    if finding.word == "unknown":
+        names = {it.text for it in source.tokens() if it.kind == "name"} - reserved_words() - {name}
+        close = difflib.get_close_matches(name, sorted(names), 1, 0.7)
+        return f"perhaps `{close[0]}` is meant" if close else ""
+    return ""
+
+
+def help_on_duplicate(source, finding):
+    found = source.token_at(finding.line, finding.column)
+    first = next((it for it in source.tokens() if found and it.text == found.text and (it.line, it.column) < (found.line, found.column)), None)
+    return f"it stands first at line {first.line}" if first else ""
+
+
+MORE = {
+    "type": "`==`, `=` and assignments want two cells of one type, or null; a bool stands alone as a condition",
+    "arity": "look at the declaration: parameters, then `;` and logic variables, and as many results",
+}
+
+
 def refusal_sentence(finding):
     return REFUSALS.get(finding.word, f"refused as `{finding.word}`")
 
@@ -108,10 +207,9 @@ def refusal_help(source, finding):
     helps = []
     if source.data.startswith(b"\xef\xbb\xbf"):
         helps.append("the file begins with a byte order mark: save it without one")
-    if finding.word in ("syntax", "char"):
-        hint = habit_at(source, finding)
-        if hint:
-            helps.append(hint)
+    told = {"syntax": [habit_at], "char": [habit_at], "unknown": [word_at, help_on_name], "kind": [help_on_name], "duplicate": [help_on_duplicate]}
+    hints = [it(source, finding) for it in told.get(finding.word, [])]
+    helps += [it for it in [*hints, MORE.get(finding.word, "")] if it][:1]
     if finding.word == "syntax":
         words = expected_at(source, finding.line, finding.column)
         if words:

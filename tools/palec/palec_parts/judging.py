@@ -15,6 +15,7 @@ class Told:
     source: Source
     findings: list = field(default_factory=list)
     unmet: set = field(default_factory=set)
+    explained: dict = field(default_factory=dict)
     warnings: list = field(default_factory=list)
 
 
@@ -32,7 +33,7 @@ def unanswered(answer, number=0):
 
 def fields_of(caller, source):
     """The findings of the fields or of a refusal; none where every pointer field is functional."""
-    answer = caller.call("judge", request(source, "fields"))
+    answer = caller.call("judge", request(source, "fields"), label="the fields")
     if answer.cut or answer.status not in (0, 1, 3, 4):
         return [unanswered(answer)]
     return read_report(answer.output)
@@ -40,7 +41,7 @@ def fields_of(caller, source):
 
 def triple_of(caller, source, number):
     """The finding of one triple, or None where there is no triple of that number."""
-    answer = caller.call("judge", request(source, f"triple {number}"))
+    answer = caller.call("judge", request(source, f"triple {number}"), label=f"triple {number}")
     if answer.cut or answer.status not in (0, 1, 3, 4):
         return unanswered(answer, number)
     found = read_report(answer.output)
@@ -64,25 +65,37 @@ def triples_of(caller, source, pool, jobs, on_one):
     return [found[number] for number in sorted(found)]
 
 
-def judge_file(caller, source, jobs=1, with_meet=True, on_one=lambda told: None):
-    """All that is told of a file."""
+def judge_file(caller, source, jobs=1, with_meet=True, on_one=lambda told: None, explain=None):
+    """All that is told of a file; `explain(caller, source, finding)` says more of each invalid triple."""
     told = Told(source)
     if source.has_cut_line():
         # at such a line the text would be cut, so it is judged whole
         told.findings = [it for it in read_report(caller.call("check", source.data).output)]
         return told
     with ThreadPoolExecutor(jobs + 1) as pool:
-        told.findings = fields_of(caller, source)
-        if told.findings:
-            return told
-        starts = pool.submit(caller.call, "meet", source.data) if with_meet else None
-        told.findings = triples_of(caller, source, pool, jobs, on_one)
-        if starts is not None:
-            answer = starts.result()
-            told.unmet = {it.number for it in read_report(answer.output) if it.verdict == "empty"} if not answer.cut else set()
+        try:
+            judge_parts(caller, source, told, pool, jobs, with_meet, on_one, explain)
+        except KeyboardInterrupt:
+            # what runs is ended first, since the pool waits for it
+            caller.stop()
+            raise
     if not told.findings:
         told.warnings.append("there is no procedure, so nothing was judged")
     return told
+
+
+def judge_parts(caller, source, told, pool, jobs, with_meet, on_one, explain):
+    """The fields first, and then the triples, beside them the starts."""
+    told.findings = fields_of(caller, source)
+    if told.findings:
+        return
+    starts = pool.submit(caller.call, "meet", source.data, label="the starts") if with_meet else None
+    told.findings = triples_of(caller, source, pool, jobs, on_one)
+    invalid = [it for it in told.findings if it.verdict == "invalid"] if explain else []
+    told.explained = dict(zip((it.number for it in invalid), pool.map(lambda it: explain(caller, source, it), invalid)))
+    if starts is not None:
+        answer = starts.result()
+        told.unmet = {it.number for it in read_report(answer.output) if it.verdict == "empty"} if not answer.cut else set()
 
 
 def status_of(all_told):

@@ -5,6 +5,7 @@ import shutil
 import signal
 import subprocess
 import threading
+import time
 from dataclasses import dataclass
 from pathlib import Path
 
@@ -40,7 +41,7 @@ class Caller:
 
     def __init__(self, program, limit=None, seconds=None, megabytes=None):
         self.program, self.limit, self.seconds, self.megabytes = program, limit, seconds, megabytes
-        self.running, self.lock, self.stopped = set(), threading.Lock(), False
+        self.running, self.lock, self.stopped = {}, threading.Lock(), False
 
     def bounded(self):
         """In the child: its own group, and its bound of memory."""
@@ -49,8 +50,8 @@ class Caller:
             size = self.megabytes << 20
             resource.setrlimit(resource.RLIMIT_AS, (size, size))
 
-    def call(self, mode, text, *words):
-        """The answer of `pale MODE` for a text."""
+    def call(self, mode, text, *words, label=""):
+        """The answer of `pale MODE` for a text; the label is what a line of progress calls it."""
         given = [self.program, mode, *words]
         if self.limit is not None:
             given += ["--limit", str(self.limit)]
@@ -58,7 +59,7 @@ class Caller:
             if self.stopped:
                 return Answer("", -1, "stopped")
             child = subprocess.Popen(given, stdin=subprocess.PIPE, stdout=subprocess.PIPE, stderr=subprocess.DEVNULL, preexec_fn=self.bounded)
-            self.running.add(child)
+            self.running[child] = (label, time.monotonic())
         cut = ""
         try:
             output, _ = child.communicate(text, timeout=self.seconds)
@@ -66,10 +67,20 @@ class Caller:
             cut = "time"
             self.end(child)
             output, _ = child.communicate()
+        except BaseException:
+            self.end(child)
+            child.wait()
+            raise
         finally:
             with self.lock:
-                self.running.discard(child)
+                self.running.pop(child, None)
         return Answer(output.decode("utf-8", "replace"), child.returncode, cut or ("stopped" if self.stopped else ""))
+
+    def under_way(self):
+        """The labels of the calls that run, each with the seconds since it began."""
+        with self.lock:
+            now = time.monotonic()
+            return [(label, now - began) for label, began in self.running.values() if label]
 
     @staticmethod
     def end(child):

@@ -1,5 +1,7 @@
 """Diagnoses on the text, as compilers draw them."""
+from .explaining import part_lines, step_lines
 from .hints import CAUSES, refusal_help, refusal_sentence
+from .tables import store_lines
 
 COLOURS = {"error": "\033[1;31m", "warning": "\033[1;33m", "note": "\033[1;36m", "help": "\033[1;32m", "": "\033[0m"}
 KEYWORDS = ("while", "split", "call", "proc", "assert", "free", "}")
@@ -37,15 +39,6 @@ def printable(text):
     return "".join(it if it.isprintable() or it == "\t" else "?" for it in text)
 
 
-def store_lines(store):
-    """A store as lines: variables, and a line for each cell."""
-    lines = [", ".join(f"{name} = {value}" for name, value in store.variables) or "no variables"]
-    for cell in store.cells:
-        values = " ".join(f"{name}={value}" for name, value in cell.values)
-        lines.append(f"cell {cell.number}: {cell.type} {values}".rstrip())
-    return lines
-
-
 def tell_refusal(writer, source, finding):
     writer.head("error", f"{refusal_sentence(finding)} [{finding.word}]")
     if finding.line:
@@ -65,13 +58,16 @@ def tell_field(writer, source, finding):
     writer.lines("help", ["a pointer field's route has to lead to one cell at most, from every cell"])
 
 
-def tell_triple(writer, source, finding, is_unmet):
+def tell_triple(writer, source, finding, is_unmet, explained=None):
     name = f"triple {finding.number}" + (f" of {finding.procedure}, which starts at line {finding.line}," if finding.procedure else "")
     if finding.verdict == "invalid":
         sentence, hint = CAUSES.get(finding.cause, ("it fails", ""))
         writer.head("error", f"{name} can fail: {sentence} [{finding.cause}]")
         writer.place(source, source.first_on(finding.at, KEYWORDS), "here")
         writer.lines("note", ["it starts with the store", *store_lines(finding.store)] if finding.store else [])
+        if explained and explained.trace and explained.trace.steps:
+            writer.lines("note", ["and goes on so", *step_lines(explained.trace)])
+        writer.lines("note", part_lines(source, explained.parts) if explained else [])
         writer.lines("help", [f"{hint}; docs/answers.md has the cause `{finding.cause}` with an example"] if hint else [])
     elif finding.verdict == "limit":
         writer.head("error", f"{name} wasn't decided: a greater --limit, or a `split` in the middle of it")
@@ -91,7 +87,7 @@ def tell_file(writer, told, is_quiet=False):
         elif finding.kind == "field":
             tell_field(writer, told.source, finding)
         elif finding.kind == "triple":
-            tell_triple(writer, told.source, finding, finding.number in told.unmet)
+            tell_triple(writer, told.source, finding, finding.number in told.unmet, told.explained.get(finding.number))
         elif finding.verdict == "no answer":
             writer.head("error", f"the file has no answer: {finding.word}")
     for warning in told.warnings:
