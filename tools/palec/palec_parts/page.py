@@ -15,8 +15,8 @@ STYLE = """
 body { font: 15px/1.4 system-ui, sans-serif; margin: 0; display: flex; height: 100vh; color: #222; background: #fff; }
 #program { flex: 1; overflow: auto; border-right: 1px solid #ccc; padding: 8px 0; }
 #side { flex: 1; overflow: auto; padding: 8px 16px; }
-.line { display: flex; font: 13px/1.5 ui-monospace, monospace; white-space: pre; }
-.line b { width: 4em; text-align: right; padding-right: 1em; color: #888; font-weight: normal; }
+.line { display: flex; font: 13px/1.5 ui-monospace, monospace; white-space: pre; min-width: max-content; }
+.line b { flex: none; width: 4em; text-align: right; padding-right: 1em; color: #888; font-weight: normal; }
 .line.bad { background: #fde8e8; } .line.now { background: #fff3b0; }
 .line i { font-style: normal; padding-left: 2em; color: #a00; white-space: nowrap; } .line i.good { color: #070; }
 button { font: inherit; margin-right: 4px; } .triple.chosen { font-weight: bold; background: #eef; }
