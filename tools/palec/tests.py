@@ -103,21 +103,6 @@ class Calls(unittest.TestCase):
             self.assertEqual(told("check", Path(room) / "none")[0], 2)
 
 
-    def test_a_page_holds_no_word_of_the_text_as_markup(self):
-        with tempfile.TemporaryDirectory() as room:
-            path = Path(room) / "<script>x.pale"
-            path.write_text("# </script><script>alert(1)</script>\n" + (HERE / "mistakes" / "lost_cell.pale").read_text())
-            self.assertEqual(told("report", path, "-o", Path(room) / "out.html")[0], 1)
-            page = (Path(room) / "out.html").read_text()
-        self.assertEqual((page.count("<script"), page.count("</script>")), (2, 2))
-        self.assertIn("&lt;script&gt;alert(1)", page)
-
-    def test_the_steps_of_a_mistake_are_explained(self):
-        status, output = told("explain", HERE / "mistakes" / "back_pointer.pale")
-        self.assertEqual(status, 1)
-        for piece in ("step 1, line 3: y = new Dbl;", "cell 2 is made, of type Dbl", "step 3, line 4: y.next = x;", "2     Dbl   1*    null"):
-            self.assertIn(piece, output)
-
     def test_a_job_runner_of_the_distribution_runs_the_jobs(self):
         runner = shutil.which("parallel")
         if not runner:

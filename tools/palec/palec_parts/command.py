@@ -6,8 +6,8 @@ import shlex
 import sys
 from pathlib import Path
 
-from . import drawing, explaining, formats, page, telling
-from .judging import Told, fields_of, judge_file, request, status_of, triple_of
+from . import drawing, explaining, formats, telling
+from .judging import judge_file, request, status_of, triple_of
 from .progress import Progress
 from .reports import read_report
 from .running import Caller, NoProgram, find_pale
@@ -35,17 +35,6 @@ def arguments():
     check.add_argument("--no-meet", action="store_true", help="don't look for triples that no store meets")
     check.add_argument("--format", choices=["text", "json", "sarif", "github"], default="text")
     check.add_argument("--color", choices=["auto", "always", "never"], default="auto")
-
-    explain = kinds.add_parser("explain", help="tell an invalid triple step by step, with the heap after each step")
-    explain.add_argument("file", metavar="FILE")
-    explain.add_argument("--triple", type=int, metavar="K", help="the triple; else every invalid one")
-    bounds(explain)
-
-    report = kinds.add_parser("report", help="write a page for a browser: the program with its verdicts, and pictures of each invalid triple's steps")
-    report.add_argument("file", metavar="FILE")
-    report.add_argument("-o", required=True, dest="output", metavar="OUT", help="OUT.html")
-    bounds(report)
-    report.add_argument("--no-meet", action="store_true", help="don't look for triples that no store meets")
 
     draw = kinds.add_parser("draw", help="draw the store that is told of a triple, or of an ambiguous field")
     draw.add_argument("file", metavar="FILE")
@@ -91,53 +80,6 @@ def check(words, caller):
     if words.format != "text":
         sys.stdout.write({"json": formats.as_json, "github": formats.as_github, "sarif": lambda told: formats.as_sarif(told, VERSION)}[words.format](all_told))
     return status_of(all_told)
-
-
-def invalid_triples(words, caller, source):
-    """The invalid triple of the number that was given, or all that are invalid; and what else was told."""
-    if words.triple is None:
-        found = judge_file(caller, source, max(words.j, 1), False).findings
-    else:
-        found = fields_of(caller, source) or [it for it in [triple_of(caller, source, words.triple)] if it]
-    return [it for it in found if it.verdict == "invalid"], [it for it in found if it.verdict not in ("invalid", "valid")], bool(found)
-
-
-def explain(words, caller):
-    """Each invalid triple: what is wrong, its start, its steps, and which parts of an assertion are false."""
-    sources = sources_of([words.file])
-    if sources is None:
-        return USAGE
-    source = sources[0]
-    writer = telling.Writer(sys.stdout.write, is_coloured("auto"))
-    invalid, others, is_there = invalid_triples(words, caller, source)
-    if not is_there:
-        print(f"palec: there is no triple {words.triple}" if words.triple else "palec: there is no triple", file=sys.stderr)
-        return USAGE
-    for finding in invalid:
-        told = explaining.explain(caller, source, finding)
-        telling.tell_triple(writer, source, finding, False, explaining.Explained(parts=told.parts))
-        if told.trace:
-            explaining.tell_steps(sys.stdout.write, source, told, telling.printable)
-        sys.stdout.write("\n")
-    rest = Told(source, others)
-    telling.tell_file(writer, rest, True)
-    if not invalid and not others:
-        print(f"{source.path}: nothing is invalid")
-    return status_of([Told(source, invalid + others)])
-
-
-def report(words, caller):
-    sources = sources_of([words.file])
-    if sources is None:
-        return USAGE
-    told = judge_file(caller, sources[0], max(words.j, 1), not words.no_meet, explain=explaining.explain)
-    try:
-        with open(words.output, "w", encoding="utf-8", errors="replace") as file:
-            file.write(page.as_page(told))
-    except OSError as error:
-        print(f"palec: {error.filename}: {error.strerror}", file=sys.stderr)
-        return USAGE
-    return status_of([told])
 
 
 def draw(words, caller):
@@ -236,7 +178,7 @@ def main(given):
         print(f"palec: {error}", file=sys.stderr)
         return USAGE
     try:
-        return {"check": check, "explain": explain, "report": report, "draw": draw, "jobs": jobs, "gather": gather}[words.kind](words, caller)
+        return {"check": check, "draw": draw, "jobs": jobs, "gather": gather}[words.kind](words, caller)
     except KeyboardInterrupt:
         caller.stop()
         print("palec: stopped", file=sys.stderr)

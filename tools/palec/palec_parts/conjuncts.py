@@ -2,8 +2,8 @@
 from dataclasses import dataclass
 
 from .judging import request
+from .reports import store_text
 from .sources import Source
-from .tracing import store_text
 
 # More parts than that aren't asked one by one.
 MOST_PARTS = 32

@@ -1,65 +1,22 @@
-"""How an invalid triple fails: its steps with the heap after each, and the parts of an assertion that are false there."""
+"""What is known of an invalid triple beyond its report: the parts of an assertion that are false where it fails."""
 from dataclasses import dataclass, field
 
 from .conjuncts import false_parts
-from .judging import request
-from .tables import store_lines
-from .tracing import heaps, read_trace, store_text
-
-# In a diagnosis stand so many steps at most: the first ones and the last ones.
-MOST_STEPS = 12
 
 
 @dataclass
 class Explained:
-    """The trace of a triple from its store, the heap at the start and after each step, and what is false where it fails."""
+    """The conjuncts that are false where the triple fails."""
 
-    trace: object = None
-    heaps: list = field(default_factory=list)
     parts: list = field(default_factory=list)
 
 
-def explain(caller, source, finding, with_parts=True):
-    """What is known of an invalid triple beyond its report; without a trace where pale writes none."""
+def explain(caller, source, finding):
+    """What is known of an invalid triple beyond its report."""
     if finding.store is None or source.has_cut_line():
         return Explained()
-    answer = caller.call("trace", request(source, f"triple {finding.number}") + store_text(finding.store).encode())
-    trace = read_trace(answer.output) if answer.status == 1 and not answer.cut else None
-    told = Explained(trace, heaps(source, finding.store, trace) if trace else [])
-    told.parts = false_parts(caller, source, finding) if with_parts else []
-    return told
-
-
-def sentence(step):
-    """What a step did, in words."""
-    return {
-        "assign": f"{step.place} = {step.value}",
-        "new": f"cell {step.place} is made, of type {step.value}",
-        "free": f"cell {step.place} is freed",
-        "truth": f"it is {step.value}",
-        "cut": "a cut is passed: what has to hold here holds",
-        "call": f"{step.place} is called",
-        "return": f"{step.place} returns",
-    }[step.kind]
-
-
-def step_lines(trace):
-    """One line for each step, as many as a diagnosis shows."""
-    lines = [f"line {step.line}: {sentence(step)}" for step in trace.steps]
-    if len(lines) > MOST_STEPS:
-        left = len(lines) - MOST_STEPS + 1
-        lines = [*lines[: MOST_STEPS // 2], f".. {left} more steps ..", *lines[len(lines) - MOST_STEPS // 2 + 1:]]
-    return lines
+    return Explained(false_parts(caller, source, finding))
 
 
 def part_lines(source, parts):
     return [f"of the {part.what} this is false: {part.text(source)}" for part in parts]
-
-
-def tell_steps(write, source, told, printable):
-    """The trace step by step, each with the line of the text and the heap after it."""
-    write("\nat the start\n" + "".join(f"      {line}\n" for line in store_lines(told.heaps[0].store)))
-    for number, (step, heap) in enumerate(zip(told.trace.steps, told.heaps[1:]), 1):
-        write(f"\nstep {number}, line {step.line}: {printable(source.line(step.line).strip())}\n   -> {sentence(step)}\n")
-        if heap.changed:
-            write("".join(f"      {line}\n" for line in store_lines(heap.store, heap.changed)))

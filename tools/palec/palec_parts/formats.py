@@ -9,6 +9,9 @@ def place_of(told, finding):
     """The line and column that a finding points to."""
     if finding.kind == "refused":
         return finding.line or 1, finding.column or 1
+    declared = told.source.field_token(finding.procedure) if finding.kind == "field" else None
+    if declared:
+        return declared.line, declared.column
     if finding.kind == "triple" and finding.line:
         token = told.source.first_on(finding.at if finding.verdict == "invalid" else finding.line, KEYWORDS)
         return token.line, token.column
@@ -36,13 +39,6 @@ def store_of(store):
     return {"variables": dict(store.variables), "cells": cells}
 
 
-def steps_of(explained):
-    """The steps of an execution, or null where there is none."""
-    if explained is None or explained.trace is None:
-        return None
-    return [{"line": it.line, "kind": it.kind, "place": it.place or None, "value": it.value or None} for it in explained.trace.steps]
-
-
 def entries(all_told):
     """One object for each finding, and one for each start that no store meets."""
     for told in all_told:
@@ -57,7 +53,7 @@ def entries(all_told):
                 "cause": finding.cause or finding.word or None, "triple": finding.number or None, "name": finding.procedure or None,
                 "starts": finding.line if finding.kind == "triple" else None, "met": finding.number not in told.unmet if finding.kind == "triple" else None,
                 "message": "; ".join([sentence_of(finding), *(f"this is false: {it}" for it in parts)]), "store": store_of(finding.store),
-                "steps": steps_of(explained), "false": parts,
+                "false": parts,
             }
 
 

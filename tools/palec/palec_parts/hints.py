@@ -29,13 +29,13 @@ CAUSES = {
     "dangling": ("it reads through a cell that was freed", "set pointers to a cell to another one, or to null, before it is freed"),
     "double-free": ("it frees a cell that was freed already", "free each cell once"),
     "variant": ("the cell is of a variant without this field", "test the variant before, by `x:V`"),
-    "assert": ("the assertion is false", "see the store at the start, and replay it"),
+    "assert": ("the assertion is false", "say in the precondition or invariant what it needs, or mend the statements before it"),
     "dangling-ref": ("a field or variable still names a freed cell", "set it to null, or to another cell, before the cut"),
     "shared": ("two data fields or variables lead to one cell", "set one of them to null"),
     "leak": ("a cell is lost: no data variable leads to it", "keep a data variable on it, or free it"),
     "field": ("a pointer field isn't what its route says", "set the field again after the change"),
     "escape": ("a pointer leads out of the part that a call hands over, or into it", "set it to null before the call"),
-    "post": ("what has to hold here doesn't", "see which part of the assertion is false in the store"),
+    "post": ("what has to hold here doesn't", "mend the statements before it, say more where the triple starts, or ask less here"),
 }
 
 # What writers of other languages write, and what stands for it here.
@@ -156,6 +156,17 @@ def scope_of(source, finding):
     return names
 
 
+def locals_behind(source, finding):
+    """The names that are declared between a place and the next procedure."""
+    found, tokens = set(), [it for it in source.tokens() if (it.line, it.column) > (finding.line, finding.column)]
+    for token, following in zip(tokens, tokens[1:]):
+        if token.text == "proc":
+            break
+        if token.text in ("data", "pointer", "bool") and following.kind == "name":
+            found.add(following.text)
+    return found
+
+
 def inside_of(source, finding):
     """Which assertion's brackets are open at a place: `pre`, `post`, another word, or nothing."""
     opened = []
@@ -179,6 +190,8 @@ def help_on_name(source, finding):
         return "`pre` speaks of the entry, where results are null: it names parameters and logic variables"
     if where == "post" and how == "parameter":
         return "`post` names results and logic variables: what a parameter had is kept by a logic set, `pre [x in S]`"
+    if where in ("pre", "post") and name in locals_behind(source, finding):
+        return f"`{name}` is a local, which `pre` and `post` don't see: they name parameters, results and logic variables"
     if finding.word == "unknown":
         names = {it.text for it in source.tokens() if it.kind == "name"} - reserved_words() - {name}
         close = difflib.get_close_matches(name, sorted(names), 1, 0.7)

@@ -49,6 +49,14 @@ def read_store(lines):
     return store, len(lines)
 
 
+def store_text(store):
+    """The text of a store, as `replay` and `trace` read it."""
+    lines = ["store", *(f"var {name} {value}" for name, value in store.variables)]
+    for cell in store.cells:
+        lines.append(" ".join([f"cell {cell.number} {cell.type}", *(f"{name}={value}" for name, value in cell.values)]))
+    return "\n".join([*lines, "end", ""])
+
+
 LINES = [
     (r"refused (?P<line>\d+):(?P<column>\d+) (?P<word>[\w-]+)", "refused"),
     (r"refused (?P<word>too-long)", "refused"),

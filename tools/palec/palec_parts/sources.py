@@ -57,21 +57,12 @@ class Source:
         """Whether a line is `---`, at which a text would be cut."""
         return b"---" in self.data.split(b"\n")
 
-    def fields_of(self, type_name):
-        """The fields of a cell of a type, or of a variant as `T:v`, each with the value that a new cell has."""
-        wanted, _, variant = type_name.partition(":")
-        tokens, at = self.tokens(), 0
-        while at + 1 < len(tokens) and not (tokens[at].text == "type" and tokens[at + 1].text == wanted):
-            at += 1
-        fields, block, depth, name = [], "", 0, ""
-        for place in range(at + 2, len(tokens)):
-            token = tokens[place]
-            if token.text in ("type", "pred", "proc") and depth == 0:
-                break
-            depth += {"{": 1, "}": -1}.get(token.text, 0)
-            if token.text == "|" and depth == 0:
-                block = tokens[place + 1].text
-            name = tokens[place + 1].text if depth == 1 and token.text in ("bool", "data", "pointer") and place + 1 < len(tokens) else ""
-            if name and block in ("", variant):
-                fields.append((name, "false" if token.text == "bool" else "null"))
-        return fields
+    def field_token(self, name):
+        """The token that declares a pointer field, named `T.f`, or None."""
+        wanted, _, field = name.partition(".")
+        tokens, owner = self.tokens(), ""
+        for at in range(len(tokens) - 1):
+            owner = tokens[at + 1].text if tokens[at].text == "type" else owner
+            if owner == wanted and tokens[at].text == "pointer" and tokens[at + 1].text == field:
+                return tokens[at + 1]
+        return None

@@ -1,5 +1,5 @@
 """Diagnoses on the text, as compilers draw them."""
-from .explaining import part_lines, step_lines
+from .explaining import part_lines
 from .hints import CAUSES, refusal_help, refusal_sentence
 from .tables import store_lines
 
@@ -53,6 +53,9 @@ def tell_field(writer, source, finding):
         writer.head("error", f"it wasn't decided whether the field {finding.procedure} has one destination: a greater --limit, or a shorter route")
         return
     writer.head("error", f"the route of the field {finding.procedure} leads to two cells from cell {finding.at} [ambiguous]")
+    declared = source.field_token(finding.procedure)
+    if declared:
+        writer.place(source, declared)
     if finding.store:
         writer.lines("note", store_lines(finding.store))
     writer.lines("help", ["a pointer field's route has to lead to one cell at most, from every cell"])
@@ -65,8 +68,6 @@ def tell_triple(writer, source, finding, is_unmet, explained=None):
         writer.head("error", f"{name} can fail: {sentence} [{finding.cause}]")
         writer.place(source, source.first_on(finding.at, KEYWORDS), "here")
         writer.lines("note", ["it starts with the store", *store_lines(finding.store)] if finding.store else [])
-        if explained and explained.trace and explained.trace.steps:
-            writer.lines("note", ["and goes on so", *step_lines(explained.trace)])
         writer.lines("note", part_lines(source, explained.parts) if explained else [])
         writer.lines("help", [f"{hint}; docs/answers.md has the cause `{finding.cause}` with an example"] if hint else [])
     elif finding.verdict == "limit":
