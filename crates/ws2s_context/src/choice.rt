@@ -8,9 +8,10 @@
 
 ghost use Rattle.ws2s_context.specs.Conjuncts.{IsContext, IsThere};
 
+use crate::blocks::Blocks;
 use crate::context::{Context, members_of, note};
 use crate::facts::Facts;
-use crate::spine::{conjuncts_of, has_step, is_atom, is_single};
+use crate::spine::{conjuncts_of, has_step, is_atom, is_position, single_of};
 use crate::tracks::of_list;
 use std::alloc::{AllocError, Global};
 use std::collections::{HashMap, HashSet};
@@ -44,6 +45,8 @@ pub(crate) struct Choice {
     weighed: HashSet<u32>,
     /// The formula whose parts are rewritten.
     root: FormulaId,
+    /// The quantified positions around the part that is looked at.
+    blocks: Blocks,
 }
 
 impl Choice {
@@ -64,6 +67,7 @@ impl Choice {
             taken: HashSet::new(alloc),
             weighed: of_list(alloc, weigh)?,
             root: id,
+            blocks: Blocks::new(alloc),
         };
         choice.is_whole = facts.has_stranger(id, &choice.weighed);
         if choice.is_whole {
@@ -178,8 +182,9 @@ impl Choice {
         Ok(strangers)
     }
 
-    /// Whether the conjunct is a `Single` atom that comes beside negations of the formula. In a text's own formula those of bound
-    /// tracks don't: alternating quantifiers over pairs of positions took fifty times as long with them.
+    /// Whether the conjunct is a `Single` atom that comes beside negations of the formula. In a text's own formula it is one of a free
+    /// position, or of one that is quantified in the innermost block: with those of outer blocks too, alternating quantifiers over pairs of
+    /// positions took fifty times as long.
     pub(crate) fn restricts(
         &self,
         interner: &Interner,
@@ -187,9 +192,40 @@ impl Choice {
         conjunct: FormulaId,
         id: FormulaId,
     ) -> bool {
-        is_single(interner, conjunct)
-            && facts.is_relevant(conjunct, id)
-            && (self.is_whole || facts.is_relevant(conjunct, self.root))
+        let Some(t) = single_of(interner, conjunct) else {
+            return false;
+        };
+        facts.is_relevant(conjunct, id)
+            && (self.is_whole || self.blocks.has(t) || facts.is_relevant(conjunct, self.root))
+    }
+
+    /// Whether all tracks of the conjunct are weighed, as far as known.
+    pub(crate) fn is_of_weighed(&self, facts: &Facts, conjunct: FormulaId) -> bool {
+        !facts.has_stranger(conjunct, &self.weighed)
+    }
+
+    /// What is looked at next stands under a negation.
+    pub(crate) fn enter_negation(&mut self) -> Result<(), AllocError> {
+        self.blocks.enter_negation()
+    }
+
+    /// What is looked at next is the formula, under a quantifier of the track.
+    pub(crate) fn enter_quantifier(
+        &mut self,
+        alloc: Global,
+        interner: &Interner,
+        t: Track,
+        f: FormulaId,
+    ) -> Result<(), AllocError>
+        requires { IsThere interner.now f }
+    {
+        let is_position = !self.is_whole && is_position(alloc, interner, t, f)?;
+        self.blocks.enter_quantifier(t, is_position)
+    }
+
+    /// What is looked at next stands outside the innermost negation or quantifier.
+    pub(crate) fn leave(&mut self) {
+        self.blocks.leave();
     }
 
     /// Whether a context is conjoined under a quantifier of the formula.

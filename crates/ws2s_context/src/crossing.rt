@@ -20,7 +20,7 @@ use std::alloc::{AllocError, Global};
 use ws2s_core::{FormulaId, Interner};
 
 /// How many conjuncts a chain has at least for which what is known across them comes in front: with fewer the sets of types are few.
-const MANY_PARTS: usize = 8;
+const MANY_PARTS: usize = 10;
 
 /// What a formula was rewritten to, with what is known across its conjuncts in front; where these are few, or atoms
 /// alone come into contexts, as it is.
@@ -45,16 +45,18 @@ pub(crate) fn crossed(
     if parts.len() < MANY_PARTS {
         return Ok(to);
     }
-    let known = crossing(alloc, interner, facts, place, &parts)?;
+    let known = crossing(alloc, interner, facts, choice, place, &parts)?;
     let made = put_context_first(alloc, interner, facts, known, to)?;
     Ok(made)
 }
 
-/// What of its context is relevant to a formula and to no one of its conjuncts.
+/// What of its context is relevant to a formula and to no one of its conjuncts, and speaks of weighed tracks alone: the product of what is said of
+/// pairs of variables tells apart the sets of all of them.
 fn crossing(
     alloc: Global,
     interner: &mut Interner,
     facts: &mut Facts,
+    choice: &Choice,
     place: Place,
     parts: &[FormulaId],
 ) -> Result<Context, AllocError>
@@ -67,14 +69,15 @@ fn crossing(
 {
     let members = members_of(alloc, interner, place.context)?;
     let mut chosen = Vec::new(alloc);
-    choose_crossing(&mut chosen, facts, &members, parts, place.id)?;
+    choose_crossing(&mut chosen, choice, facts, &members, parts, place.id)?;
     let made = conjunction_of(alloc, interner, facts, chosen)?;
     Ok(made)
 }
 
-/// Chooses those conjuncts that are relevant to a formula and to no one of its parts.
+/// Chooses those conjuncts of weighed tracks that are relevant to a formula and to no one of its parts.
 fn choose_crossing(
     chosen: &mut Vec<FormulaId>,
+    choice: &Choice,
     facts: &Facts,
     conjuncts: &[FormulaId],
     parts: &[FormulaId],
@@ -83,14 +86,22 @@ fn choose_crossing(
     ensures { OnOk result (IsAmong chosen.old.items conjuncts.now chosen.new.items) }
 {
     for conjunct in conjuncts {
-        if is_crossing(facts, *conjunct, parts, id) {
+        if is_crossing(choice, facts, *conjunct, parts, id) {
             chosen.push(*conjunct)?;
         }
     }
     Ok(())
 }
 
-/// Whether the conjunct is relevant to a formula and to no one of its parts.
-fn is_crossing(facts: &Facts, conjunct: FormulaId, parts: &[FormulaId], id: FormulaId) -> bool {
-    facts.is_relevant(conjunct, id) && !parts.iter().any(|part| facts.is_relevant(conjunct, *part))
+/// Whether the conjunct speaks of weighed tracks alone, and is relevant to a formula and to no one of its parts.
+fn is_crossing(
+    choice: &Choice,
+    facts: &Facts,
+    conjunct: FormulaId,
+    parts: &[FormulaId],
+    id: FormulaId,
+) -> bool {
+    choice.is_of_weighed(facts, conjunct)
+        && facts.is_relevant(conjunct, id)
+        && !parts.iter().any(|part| facts.is_relevant(conjunct, *part))
 }

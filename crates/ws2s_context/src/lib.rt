@@ -6,6 +6,7 @@
 //! free: `src/choice.rt` has the two ways.
 #![tactic(auto)]
 
+mod blocks;
 mod choice;
 mod context;
 mod crossing;

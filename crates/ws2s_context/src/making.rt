@@ -75,6 +75,7 @@ pub(crate) fn make_negation(
     ensures ok { OnOk result (IsGoing interner.new machine.new.tasks machine.new.rewritings.made.items) }
     ensures facts { OnOk result (AreFacts interner.new facts.new.facts.items) }
 {
+    machine.choice.leave();
     let part = machine.rewritings.to(inner);
     let watched = machine.choice.watched(alloc, interner, place.context)?;
     let crossed = crossed(alloc, interner, facts, &machine.choice, inner, part)?;
@@ -109,6 +110,7 @@ pub(crate) fn make_quantified(
     ensures ok { OnOk result (IsGoing interner.new machine.new.tasks machine.new.rewritings.made.items) }
     ensures facts { OnOk result (AreFacts interner.new facts.new.facts.items) }
 {
+    machine.choice.leave();
     let part = machine.rewritings.to(inner);
     let is_wanted = machine.choice.is_wanted(alloc, interner, facts, inner.id)?;
     let watched = machine.choice.watched(alloc, interner, inner.context)?;

@@ -5,7 +5,7 @@ ghost use Rattle.ws2s_core.specs.declared.formula.Formula.{Formula};
 ghost use Rattle.ws2s_context.specs.Conjuncts.{IsThere, IsConjunct, AreConjuncts, formula_of};
 
 use std::alloc::{AllocError, Global};
-use ws2s_core::{FormulaId, Interner, Node};
+use ws2s_core::{FormulaId, Interner, Node, Track};
 
 /// How many conjunctions and conjuncts are looked at for conjuncts, at most.
 const MANY_PARTS: u32 = 2_048;
@@ -112,9 +112,29 @@ fn look_for_step(
     Ok(false)
 }
 
-/// Whether the formula says of a track that it has one position.
-pub(crate) fn is_single(interner: &Interner, id: FormulaId) -> bool {
-    matches!(interner.form(id), Some(Node::Single(_)))
+/// The track of which the formula says that it has one position. `None` where it says something else.
+pub(crate) fn single_of(interner: &Interner, id: FormulaId) -> Option<Track> {
+    match interner.form(id) {
+        Some(Node::Single(x)) => Some(x),
+        _ => None,
+    }
+}
+
+/// Whether the formula says, beside other conjuncts, that the track has one position, as far as it is looked for.
+pub(crate) fn is_position(
+    alloc: Global,
+    interner: &Interner,
+    t: Track,
+    id: FormulaId,
+) -> Result<bool, AllocError>
+    requires { IsThere interner.now id }
+{
+    let conjuncts = conjuncts_of(alloc, interner, id)?;
+    Ok(
+        conjuncts
+            .iter()
+            .any(|conjunct| single_of(interner, *conjunct) == Some(t)),
+    )
 }
 
 /// Whether the formula is a conjunction.

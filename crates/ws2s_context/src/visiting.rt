@@ -180,6 +180,7 @@ fn enter_negation(
     requires going { IsGoing interner.now machine.old.tasks machine.old.rewritings.made.items }
     ensures ok { OnOk result (IsGoing interner.now machine.new.tasks machine.new.rewritings.made.items) }
 {
+    machine.choice.enter_negation()?;
     let inner = Place {
         context: place.context,
         id: f,
@@ -208,6 +209,7 @@ fn enter_quantifier(
     ensures ok { OnOk result (IsGoing interner.new machine.new.tasks machine.new.rewritings.made.items) }
     ensures facts { OnOk result (AreFacts interner.new facts.new.facts.items) }
 {
+    machine.choice.enter_quantifier(alloc, interner, t, f)?;
     let around = inside(alloc, interner, facts, place.context, t, f)?;
     let inner = Place {
         context: around,
