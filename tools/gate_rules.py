@@ -33,7 +33,6 @@ STANDING_CALLS = {
     "gta_merge": 1,
     "gta_minimise": 1,
     "kernel_gallery": 1,
-    "store_runner": 1,
     "ws2s_context": 2,
     "ws2s_decide": 1,
 }

@@ -8,7 +8,7 @@ ghost use Rattle.store_core.specs.Stores.{Fits, var_value};
 ghost use Rattle.store_core.specs.CellLists.{AreRising};
 ghost use Rattle.routing_walks.specs.WellFormed.{IsWellFormed};
 ghost use Rattle.routing_walks.specs.CutFaults.{IsSound};
-ghost use Rattle.store_exec.specs.Cuts.{IsMet, AreMet, PointsTo, Escapes, AtCut};
+ghost use Rattle.store_exec.specs.Cuts.{AreMet, PointsTo, Escapes, AtCut};
 ghost use Rattle.store_exec.specs.Failing.{IsBlank, StartHolds};
 ghost use Rattle.store_exec.specs.Fits.{ClaimFits, CutFits, StartFits};
 ghost use Rattle.store_exec.specs.Telling.{IsAstray, cause_of_fault};
@@ -16,26 +16,11 @@ ghost use Rattle.store_exec.specs.Telling.{IsAstray, cause_of_fault};
 use routing_expr::{cut_fault, reached};
 use routing_walks::CutFault;
 use std::alloc::{AllocError, Global};
+use store_claims::holds;
 use store_core::{CellId, Store, TypeTable, Value, VarId, VarKind, VarTable};
 use store_exec::{Cause, Claim, Cut, Start};
 use store_logic::VarList;
-use store_sat::{has, sat};
-
-/// Whether the store satisfies a claim's assertion on its region.
-fn is_met(
-    alloc: Global,
-    types: &TypeTable,
-    vars: &VarTable,
-    store: &Store,
-    claim: &Claim,
-) -> Result<bool, AllocError>
-    requires { ClaimFits types.now vars.now claim.now }
-    ensures { IfOk result (λ met. IsTrue met ↔ IsMet types.now vars.now store.now claim.now) }
-{
-    // Only for its clause on the table.
-    let _ = vars.vars();
-    sat(alloc, types, store, &claim.region, &claim.assertion)
-}
+use store_sat::has;
 
 /// Whether the store meets each of the claims.
 fn are_met(
@@ -45,11 +30,12 @@ fn are_met(
     store: &Store,
     claims: &[Claim],
 ) -> Result<bool, AllocError>
-    requires { AllByRecursion (ClaimFits types.now vars.now) claims.now }
+    requires fits { Fits types.now vars.now store.now }
+    requires claims { AllByRecursion (ClaimFits types.now vars.now) claims.now }
     ensures { IfOk result (λ met. IsTrue met ↔ AreMet types.now vars.now store.now claims.now) }
 {
     for claim in claims {
-        if !is_met(alloc, types, vars, store, claim)? {
+        if !holds(alloc, types, vars, store, claim)? {
             return Ok(false);
         }
     }

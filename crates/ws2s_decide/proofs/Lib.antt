@@ -1,3 +1,4 @@
+pub mod AloneLemmas
 pub mod ComplementLemmas
 pub mod CountingLemmas
 pub mod BackLemmas

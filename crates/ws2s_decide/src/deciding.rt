@@ -47,8 +47,6 @@ pub(crate) fn verdict_of(
     ensures same_limit { limit_of shelf.new ≡ limit_of shelf.old }
     ensures guide { IsGuide g.now }
 {
-    // Only for its clause `guide`.
-    let _ = g.spaces();
     match automaton_of(alloc, g, interner, id, way, kept, shelf) {
         Ok(auto) => verdict_by(alloc, g, auto, weigh, shelf),
         Err(Stop::Limit) => Ok(Verdict::Limit),

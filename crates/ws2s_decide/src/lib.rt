@@ -11,6 +11,7 @@ mod deciding;
 mod first_way;
 mod machine;
 mod making;
+mod minimal;
 mod network_way;
 mod task;
 mod trying;
@@ -23,4 +24,5 @@ mod way;
 mod ways;
 
 pub use decider::{Decider, decide};
+pub use minimal::automaton;
 pub use verdict::Verdict;

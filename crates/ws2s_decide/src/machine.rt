@@ -116,7 +116,6 @@ pub(crate) fn automaton_of(
     kept: &mut Kept,
     shelf: &mut Shelf,
 ) -> Result<Auto, Stop>
-    requires guide { IsGuide g.now }
     requires there { (f : Formula) × (slice_get interner.now id.0 ≡ Some f) }
     requires rests { Rests g.now interner.now shelf.old [] kept.old }
     ensures ok { IfOk result (λ auto. Rests g.now interner.now shelf.new (auto ∷ []) kept.new) }
@@ -125,7 +124,10 @@ pub(crate) fn automaton_of(
     ensures limit { result ≡ Err Stop.Limit → (f : Formula) (p : ℕ) → slice_get interner.now id.0 ≡ Some f → HasPeak g.now f p →
         limit_of shelf.old < p }
     ensures same_limit { limit_of shelf.new ≡ limit_of shelf.old }
+    ensures guide { IsGuide g.now }
 {
+    // Only for its clause `guide`.
+    let _ = g.spaces();
     let mut machine = Machine {
         tasks: Stack::new(alloc),
         automata: Waiting::new(alloc),

@@ -8,7 +8,7 @@ use Rattle.store_runner.proofs.cuts.are_met.Goals as goal
 pub loop-claim-preserved : goal.loop-claim-preserved
 loop-claim-preserved c = All-more (IsMet c.args.types.now c.args.vars.now c.args.store.now) c.args.claims.now c.loop-claim.claim-index c.claim-item.result
     (omega (arith, c.loop-claim-test.true)) c.loop-claim.invariant
-    (subst (IsMet c.args.types.now c.args.vars.now c.args.store.now) c.claim-item.is (c.in_ok-is_met.ensures.0 c.if-not-branch.false))
+    (subst (IsMet c.args.types.now c.args.vars.now c.args.store.now) c.claim-item.is (c.in_ok-holds.ensures.0 c.if-not-branch.false))
 
 pub returns : goal.returns
 returns c = (

@@ -80,7 +80,7 @@ returns-clause-limit c = λ stopped f p there peak.
       | in-Ok w ↦ absurd (let clash = sym w.last-is ∙ stopped in cc)
       | in-Err w ↦
           (let is : w.in-Err.stop ≡ Stop.Limit = (let same = sym w.last-is ∙ stopped in cc) in
-          limit-of_first c.args.g.now c.args.interner.now c.requires.guide c.args.shelf.now c.args.id c.push.new.self c.new-2.result c.args.kept.now f p
+          limit-of_first c.args.g.now c.args.interner.now c.spaces.ensures.guide c.args.shelf.now c.args.id c.push.new.self c.new-2.result c.args.kept.now f p
           (c.in_ok-push.ensures.ok ∙ ap (λ (tasks : List Task). Task.Visit c.args.id ∷ tasks) c.new.ensures) c.new-2.ensures there c.requires.rests peak
           (c.run-ended.ensures.limit (w.in-Err.is ∙ ap Err is)))
     ]
