@@ -20,8 +20,9 @@ cut_is byte word front back is = by (position (λ b. b == byte) word) refl is
         word ≡ front ++ byte ∷ back
     by None at e = absurd (cc)
     by (Some i) at e =
-        let before : take i word ≡ front = cc in
-        let behind : drop (i + 1) word ≡ back = cc in
+        let both = same_Some (take i word, drop (i + 1) word) (front, back) e in
+        let before : take i word ≡ front = ap (λ p. p.0) both in
+        let behind : drop (i + 1) word ≡ back = ap (λ p. p.1) both in
         let one : suc i ≡ i + 1 = omega arith in
         cut_at_byte byte word i at ∙ ap (λ n. take i word ++ byte ∷ drop n word) one ∙ ap (λ l. l ++ byte ∷ drop (i + 1) word) before
         ∙ ap (λ l. front ++ byte ∷ l) behind

@@ -1,6 +1,6 @@
 //! The line that asks for a whole run.
 
-ghost use Rattle.std.specs.Prelude.{◌≡◌, ℕ, List, IfSome, IfNone, option_map};
+ghost use Rattle.std.specs.Prelude.{◌≡◌, ◌==◌, ℕ, List, IfSome, IfNone, option_map, position};
 ghost use Rattle.std.specs.List.{list_all};
 ghost use Rattle.store_text.specs.Spelling.{cut_at, is_name, is_name_part};
 ghost use Rattle.pale_parts.specs.Parts.{IsRunLine};
@@ -34,11 +34,18 @@ fn is_name(word: &[u8]) -> bool
     first.is_ascii_alphabetic() && are_name_parts(others)
 }
 
+/// The place of the first space.
+fn first_space(words: &[u8]) -> Option<usize>
+    ensures { result ≡ position (λ byte. byte == 32) words.now }
+{
+    words.iter().position(|byte| *byte == b' ')
+}
+
 /// What stands before and after the first space.
 fn cut_at_space(words: &[u8]) -> Option<(&[u8], &[u8])>
     ensures { option_map (λ cut. (cut.0.now, cut.1.now)) result ≡ cut_at 32 words.now }
 {
-    let place = words.iter().position(|byte| *byte == b' ')?;
+    let place = first_space(words)?;
     Some((&words[..place], &words[place + 1..]))
 }
 

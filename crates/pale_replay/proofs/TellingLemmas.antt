@@ -91,21 +91,21 @@ module _ (program : TypedProgram) (t : Triple) (types : List TypeEntry) (vars : 
         refused (first ∷ lines) (fault.line + 1) fault.kind (no_store first lines t e fault names (own_types (λ ts vs. read_text ts vs lines ≡ Err fault) read))
 
   -- by what came of it at the triple's start
-  module _ {E : Type 0} (triples : List Triple) (text : List ℕ) (b : Begun) (begun_so : Begins types vars t.start (lines_of text) b) where
-    says_begun : (s : StoreMap) (a : Answer) → read_text types vars (lines_of text) ≡ Ok s → Replays types vars t s a → (r : Result Replay E) →
+  module _ (triples : List Triple) (text : List ℕ) (b : Begun) (begun_so : Begins types vars t.start (lines_of text) b) where
+    says_begun : {E : Type 0} (s : StoreMap) (a : Answer) → read_text types vars (lines_of text) ≡ Ok s → Replays types vars t s a → (r : Result Replay E) →
         IfOk r (Says a (line_of types vars a)) → IfOk r (SaysOfText program triples t text)
     says_begun s a read replays (Err e) says = tt
     says_begun s a read replays (Ok r) says = λ first e names.
         by_words (SaysOf program triples (first ∷ lines_of text)) a (line_of types vars a) r says
         (says_store triples first (lines_of text) e names s a (line_of types vars a) read replays refl)
 
-    pub says_ill : (wrong : WfFault) → b ≡ begun.NotWellFormed wrong → (r : Result Replay E) →
+    pub says_ill : {E : Type 0} (wrong : WfFault) → b ≡ begun.NotWellFormed wrong → (r : Result Replay E) →
         IfOk r (Says (answer.NotWellFormed wrong) (line_of types vars (answer.NotWellFormed wrong))) → IfOk r (SaysOfText program triples t text)
     says_ill wrong is =
         let (s, read, first) = is_ill types vars t.start (lines_of text) b begun_so wrong is in
         says_begun s (answer.NotWellFormed wrong) read (not_well_formed wrong first)
 
-    pub says_false : b ≡ begun.StartFalse → (r : Result Replay E) →
+    pub says_false : {E : Type 0} → b ≡ begun.StartFalse → (r : Result Replay E) →
         IfOk r (Says answer.StartFalse (line_of types vars answer.StartFalse)) → IfOk r (SaysOfText program triples t text)
     says_false is =
         let (s, read, well, other) = is_false types vars t.start (lines_of text) b begun_so is in
@@ -117,16 +117,16 @@ module _ (program : TypedProgram) (t : Triple) (types : List TypeEntry) (vars : 
       met = is_met types vars t.start (lines_of text) b begun_so s is
 
       pub meets_so : Meets types vars t s
-      meets_so = record { well_formed = met.1.0; start = met.1.1 }
+      meets_so = let (read, well, holds) = met in record { well_formed = well; start = holds }
 
       pub small_so : s.next ≤ 1000001
       small_so = read_small types vars (lines_of text) s met.0
 
-      pub says_met : (a : Answer) → Replays types vars t s a → (r : Result Replay E) → IfOk r (Says a (line_of types vars a)) →
+      pub says_met : {E : Type 0} (a : Answer) → Replays types vars t s a → (r : Result Replay E) → IfOk r (Says a (line_of types vars a)) →
           IfOk r (SaysOfText program triples t text)
       says_met a = says_begun s a met.0
 
-    pub says_unread : (fault : StoreFault) → b ≡ begun.Refused fault → (n : ℕ) → n ≡ fault.line → (r : Result Replay E) →
+    pub says_unread : {E : Type 0} (fault : StoreFault) → b ≡ begun.Refused fault → (n : ℕ) → n ≡ fault.line → (r : Result Replay E) →
         IfOk r (Says (StoreRefused (n + 1) fault.kind) (store_refused_line (n + 1) fault.kind)) → IfOk r (SaysOfText program triples t text)
     says_unread fault is n same (Err e) says = tt
     says_unread fault is n same (Ok r) says = λ first e names.

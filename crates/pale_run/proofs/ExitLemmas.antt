@@ -23,7 +23,7 @@ use Rattle.hoare_split.specs.Picking.{is_left}
 use Rattle.hoare_split.specs.Settings.{settings}
 use Rattle.hoare_split.specs.Cuts.{plain_cut, call_cut}
 use Rattle.hoare_split.proofs.FittingVariableLemmas.{all-at, left-program, settings-fit}
-use Rattle.whole_run.specs.States.{Waiting, State, runs, exited, Turn, goes, fails, Answer, Exit}
+use Rattle.whole_run.specs.States.{Waiting, State, runs, exited, Turn, goes, fails, Answer, Running, Fail, Exit}
 use Rattle.whole_run.specs.Turns.{from_ending, from_truth, on_with, behind_cut, Arrives, Begins, TakesForm, Exits, Takes, Returns}
 use Rattle.whole_run.specs.Runs.{EndsBy, Ends, WholeRun}
 use Rattle.whole_run.proofs.AnswerLaws.{Laws}
@@ -121,16 +121,16 @@ module _ (program : TypedProgram) (own : ProcEntry) where
       ((next : State) → Holds program next → At next → Later next (Exit t) → Fits program.types own.vars t) → (turn : Turn) →
       OnTurn program most turn → On turn → EndsBy Later turn (Exit t) → Fits program.types own.vars t
   after_turn Later most t later (goes next) holds at ends = later next holds.0 at ends
-  after_turn Later most t later (fails why line) holds at ends = absurd (cc)
+  after_turn Later most t later (fails why line) holds at ends = let bad : Exit t ≡ Fail why line = ends in absurd (cc)
 
   same_exit : (u t : StoreMap) → Fits program.types own.vars u → Exit t ≡ Exit u → Fits program.types own.vars t
   same_exit u t fit is = let same : u ≡ t = cc in subst (Fits program.types own.vars) same fit
 
   module _ (law : Laws) (fits : ProgramFits program) where
     ends_fit : (n : ℕ) (now : State) (t : StoreMap) → Holds program now → At now → Ends program n now (Exit t) → Fits program.types own.vars t
-    ends_fit zero (runs f waiting) t holds at is = absurd (cc)
+    ends_fit zero (runs f waiting) t holds at is = let bad : Exit t ≡ Running = is in absurd (cc)
     ends_fit zero (exited u []) t holds at is = same_exit u t at is
-    ends_fit zero (exited u (w ∷ waiting)) t holds at is = absurd (cc)
+    ends_fit zero (exited u (w ∷ waiting)) t holds at is = let bad : Exit t ≡ Running = is in absurd (cc)
     ends_fit (suc n) (runs f waiting) t holds at (turn, takes, ends) =
         after_turn (Ends program n) (next_of (runs f waiting) + 1) t (λ next. ends_fit n next t) turn
         (takes_on law program fits f.entry waiting f.left f.store turn holds takes) (takes_at f.entry waiting at f.left f.store turn holds.well takes) ends

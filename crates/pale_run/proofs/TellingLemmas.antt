@@ -82,14 +82,14 @@ module _ (program : TypedProgram) (number steps : ℕ) (types : List TypeEntry) 
       P types vars
   given_types e there P p = subst (λ (vs : List VarEntry). P types vs) (own e there) (subst (λ (ts : List TypeEntry). P ts e.vars) (sym types_are) p)
 
-  module _ {E : Type 0} (text : List ℕ) (b : Begun) (begun_so : BeginsAt program number text b) where
+  module _ (text : List ℕ) (b : Begun) (begun_so : BeginsAt program number text b) where
     -- the store that the text spells, and what comes of it
     record Comes (e : ProcEntry) (a : Answer) : Type 0 where
       of_store : StoreMap
       read : read_text program.types e.vars (lines_of text) ≡ Ok of_store
       comes : RunsFrom program number steps e of_store a
 
-    says_begun : (a : Answer) → ((e : ProcEntry) → slice_get program.procs number ≡ Some e → Comes e a) → (r : Result Run E) →
+    says_begun : {E : Type 0} (a : Answer) → ((e : ProcEntry) → slice_get program.procs number ≡ Some e → Comes e a) → (r : Result Run E) →
         IfOk r (Says a (text_of types vars a)) → IfOk r (SaysOfText program number steps text)
     says_begun a comes (Err x) says = tt
     says_begun a comes (Ok r) says = λ first e names.
@@ -98,13 +98,13 @@ module _ (program : TypedProgram) (number steps : ℕ) (types : List TypeEntry) 
         by_words (SaysOf program (first ∷ lines_of text)) a (text_of program.types e.vars a) r (says.0, written)
         (store first (lines_of text) number steps e c.of_store a names c.read c.comes)
 
-    pub says_ill : (wrong : WfFault) → b ≡ begun.NotWellFormed wrong → (r : Result Run E) →
+    pub says_ill : {E : Type 0} (wrong : WfFault) → b ≡ begun.NotWellFormed wrong → (r : Result Run E) →
         IfOk r (Says (answer.NotWellFormed wrong) (text_of types vars (answer.NotWellFormed wrong))) → IfOk r (SaysOfText program number steps text)
     says_ill wrong is = says_begun (answer.NotWellFormed wrong) (λ e there.
         let (s, read, first) = is_ill program.types e.vars (entry_start e.vars e.proc) (lines_of text) b (begun_so e there) wrong is in
         record { of_store = s; read = read; comes = not_well_formed wrong first })
 
-    pub says_false : b ≡ begun.StartFalse → (r : Result Run E) →
+    pub says_false : {E : Type 0} → b ≡ begun.StartFalse → (r : Result Run E) →
         IfOk r (Says answer.StartFalse (text_of types vars answer.StartFalse)) → IfOk r (SaysOfText program number steps text)
     says_false is = says_begun answer.StartFalse (λ e there.
         let (s, read, well, other) = is_false program.types e.vars (entry_start e.vars e.proc) (lines_of text) b (begun_so e there) is in
@@ -119,14 +119,14 @@ module _ (program : TypedProgram) (number steps : ℕ) (types : List TypeEntry) 
 
       pub can_run : (e : ProcEntry) → slice_get program.procs number ≡ Some e → steps ≤ 100000 → CanStart program number s steps
       can_run e there few =
-          let m = met e there in
-          can_start program number e there s steps m.1.0 (read_small program.types e.vars (lines_of text) s m.0) few
+          let (read, well, holds) = met e there in
+          can_start program number e there s steps well (read_small program.types e.vars (lines_of text) s read) few
 
-      pub says_met : (a : whole.Answer) → WholeRun program number s steps (answer_of a) → (r : Result Run E) →
+      pub says_met : {E : Type 0} (a : whole.Answer) → WholeRun program number s steps (answer_of a) → (r : Result Run E) →
           IfOk r (Says (answer.Ran a) (text_of types vars (answer.Ran a))) → IfOk r (SaysOfText program number steps text)
       says_met a runs = says_begun (answer.Ran a) (λ e there.
-          let m = met e there in
-          record { of_store = s; read = m.0; comes = ran a (meets_entry program number e there s m.1.0 m.1.1) runs })
+          let (read, well, holds) = met e there in
+          record { of_store = s; read = read; comes = ran a (meets_entry program number e there s well holds) runs })
 
       -- and that of the exit fits
       pub exits_fit : Laws → ProgramFits program → (e : ProcEntry) → slice_get program.procs number ≡ Some e → (a : whole.Answer) →
@@ -134,11 +134,11 @@ module _ (program : TypedProgram) (number steps : ℕ) (types : List TypeEntry) 
       exits_fit law fits e there outcome.Running runs = tt
       exits_fit law fits e there (outcome.Fail why line) runs = tt
       exits_fit law fits e there (outcome.Exit t) runs =
-          let well = (met e there).1.0 in
+          let (read, well, holds) = met e there in
           given_types e there (λ ts vs. Fits ts vs t)
           (exit_fits program e law fits number s steps t there well.fits (IsFresh-well_formed program.types e.vars s well).1 runs)
 
-    pub says_unread : (fault : StoreFault) → b ≡ begun.Refused fault → (n : ℕ) → n ≡ fault.line → (r : Result Run E) →
+    pub says_unread : {E : Type 0} (fault : StoreFault) → b ≡ begun.Refused fault → (n : ℕ) → n ≡ fault.line → (r : Result Run E) →
         IfOk r (Says (answer.StoreRefused (n + 1) fault.kind) (store_refused_line (n + 1) fault.kind)) → IfOk r (SaysOfText program number steps text)
     says_unread fault is n same (Err x) says = tt
     says_unread fault is n same (Ok r) says = λ first e names.

@@ -1,5 +1,5 @@
 -- What is known of a store text by what came of it at a start.
-use Rattle.std.proofs.Common.{◌≡◌, ◌∙◌, ℕ, List, Ok, Err, ap, subst}
+use Rattle.std.proofs.Common.{◌≡◌, ℕ, List, Ok, Err, subst}
 use Rattle.store_core.specs.Tables.{TypeEntry, VarEntry}
 use Rattle.store_core.specs.Stores.{StoreMap}
 use Rattle.routing_walks.specs.declared.fault.WfFault.{WfFault}
@@ -20,7 +20,8 @@ module _ (types : List TypeEntry) (vars : List VarEntry) (start : Start) (lines 
 
   -- it was refused
   pub is_refused : (b : Begun) → Begins types vars start lines b → (fault : StoreFault) → b ≡ begun.Refused fault → read_text types vars lines ≡ Err fault
-  is_refused _ (refused other read) fault is = let same : other ≡ fault = cc in read ∙ ap (λ (f : StoreFault). Err f) same
+  is_refused _ (refused other read) fault is =
+      let same : other ≡ fault = cc in subst (λ (f : StoreFault). read_text types vars lines ≡ Err f) same read
   is_refused _ (store s b read stands) fault is = absurd (unread s b stands fault is)
 
   -- its store isn't well-formed
