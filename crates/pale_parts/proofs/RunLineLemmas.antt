@@ -1,7 +1,7 @@
 -- The line `run PROC STEPS`: where its name ends, and that it says one thing.
 use Rattle.std.proofs.Common.{◌≡◌, ◌∙◌, ◌+◌, ◌≤◌, ◌==◌, ◌&&◌, ℕ, suc, Bool, true, false, List, [], ◌∷◌, ◌++◌, take, drop, Option, Some, None, position}
 use Rattle.std.proofs.Common.{option_map, codes, refl, sym, ap, subst, arith}
-use Rattle.std.specs.Prelude.{IsTrue}
+use Rattle.std.specs.Prelude.{IsTrue, IfNone}
 use Rattle.std.specs.List.{AllByRecursion, list_all}
 use Rattle.std.specs.Char.{is_ascii_alphabetic}
 use Rattle.std.proofs.lemmas.Option.{same_Some}
@@ -16,7 +16,7 @@ use Rattle.pale_parts.proofs.PartLemmas.{cut_at_byte}
 pub cut_is : (byte : ℕ) (word front back : List ℕ) → cut_at byte word ≡ Some (front, back) → word ≡ front ++ byte ∷ back
 cut_is byte word front back is = by (position (λ b. b == byte) word) refl is
   where
-    by : (r : Option ℕ) → position (λ b. b == byte) word ≡ r → option_map (λ i. (take i word, drop (i + 1) word)) r ≡ Some (front, back) →
+    by : (r : Option ℕ) → position (λ b. b == byte) word ≡ r → option_map {U = List ℕ × List ℕ} (λ i. (take i word, drop (i + 1) word)) r ≡ Some (front, back) →
         word ≡ front ++ byte ∷ back
     by None at e = absurd (cc)
     by (Some i) at e =
@@ -76,3 +76,40 @@ run_line line words name word steps whole cut counted few named = record {
   counted = counted;
   few = few;
 }
+
+-- ---- what stands in a line that hasn't
+
+pub if_none : {X P : Type 0} (o : Option X) → P → IfNone o P
+if_none None p = p
+if_none (Some x) p = tt
+
+no_some : {X : Type 0} (x : X) → None ≡ Some x → ⊥
+no_some x is = absurd (cc)
+
+abbrev pub IsNone : List ℕ → Type 0
+IsNone line = (name : List ℕ) (steps : ℕ) → IsRunLine line name steps → ⊥
+
+-- what follows `run ` has no space
+pub uncut : (line words : List ℕ) → line ≡ codes "run " ++ words → cut_at 32 words ≡ None → IsNone line
+uncut line words whole cut name steps is = no_some (name, is.word) (sym cut ∙ cut_of line words name steps whole is)
+
+-- it has one, and these stand before and after the first
+module _ (line words name word : List ℕ) (whole : line ≡ codes "run " ++ words) (cut : cut_at 32 words ≡ Some (name, word)) where
+  both : (other : List ℕ) (steps : ℕ) → (is : IsRunLine line other steps) → (name ≡ other) × (word ≡ is.word)
+  both other steps is =
+      let same = same_Some (name, word) (other, is.word) (sym cut ∙ cut_of line words other steps whole is) in
+      (ap (λ p. p.0) same, ap (λ p. p.1) same)
+
+  pub uncounted : number_of word ≡ None → IsNone line
+  uncounted none other steps is =
+      let bad : None ≡ Some steps = sym none ∙ ap number_of (both other steps is).1 ∙ is.counted in
+      absurd (cc)
+
+  pub unnamed : (is_name name ≡ true → ⊥) → IsNone line
+  unnamed none other steps is = none (subst (λ (l : List ℕ). is_name l ≡ true) (sym (both other steps is).0) is.named)
+
+  module _ (many : ℕ) (counted : number_of word ≡ Some many) where
+    pub too_many : (many ≤ 100000 → ⊥) → IsNone line
+    too_many none other steps is =
+        let same = same_Some many steps (sym counted ∙ ap number_of (both other steps is).1 ∙ is.counted) in
+        none (subst (λ (n : ℕ). n ≤ 100000) (sym same) is.few)

@@ -23,10 +23,10 @@ pub record IsTripleLine (line : List ℕ) (number : ℕ) : Type 0 where
   pub spelled : line ≡ codes "triple " ++ word
   pub counted : number_of word ≡ Some number
 
--- the line `run PROC STEPS`, with a name and a number of steps from 1 to 100,000
+-- the line `run PROC STEPS`, with a name, a space (32), and a number of steps from 1 to 100,000
 pub record IsRunLine (line name : List ℕ) (steps : ℕ) : Type 0 where
   pub word : List ℕ
-  pub spelled : line ≡ codes "run " ++ name ++ codes " " ++ word
+  pub spelled : line ≡ codes "run " ++ name ++ 32 ∷ word
   pub named : IsTrue (is_name name)
   pub counted : number_of word ≡ Some steps
   pub few : steps ≤ 100000
