@@ -1,5 +1,6 @@
 -- What is known of a store text by what came of it at a start.
-use Rattle.std.proofs.Common.{◌≡◌, ℕ, List, Ok, Err, subst}
+use Rattle.std.proofs.Common.{◌≡◌, ℕ, List, Result, Ok, Err, subst}
+use Rattle.std.specs.Prelude.{IfOk}
 use Rattle.store_core.specs.Tables.{TypeEntry, VarEntry}
 use Rattle.store_core.specs.Stores.{StoreMap}
 use Rattle.routing_walks.specs.declared.fault.WfFault.{WfFault}
@@ -7,7 +8,8 @@ use Rattle.routing_walks.specs.WellFormed.{IsWellFormed, IsFirstFault}
 use Rattle.store_exec.specs.declared.triple.Start.{Start}
 use Rattle.store_exec.specs.Failing.{StartHolds}
 use Rattle.store_text.specs.declared.fault.StoreFault.{StoreFault}
-use Rattle.store_text.specs.Reading.{read_text}
+use Rattle.store_text.specs.Lines.{lines_of}
+use Rattle.store_text.specs.Reading.{reading, read_text}
 use Rattle.pale_starts.specs.declared.begun.Begun.{Begun}
 use Rattle.pale_starts.specs.declared.begun.Begun.TheVariants as begun
 use Rattle.pale_starts.specs.Begins.{StandsAt, not_well_formed, start_false, meets, Begins, refused, store}
@@ -59,3 +61,18 @@ module _ (types : List TypeEntry) (vars : List VarEntry) (start : Start) (lines 
       by _ (meets well holds) same =
           let one : s ≡ t = cc in
           subst (λ (u : StoreMap). (read_text types vars lines ≡ Ok u) × IsWellFormed types vars u × StartHolds types vars start u) one (read, well, holds)
+
+-- ---- what comes of a text
+
+module _ (types : List TypeEntry) (vars : List VarEntry) (start : Start) (text : List ℕ) where
+  -- what comes of its store
+  pub brought : {E : Type 0} (s : StoreMap) → reading types vars text ≡ Ok s → (r : Result Begun E) → IfOk r (StandsAt types vars start s) →
+      IfOk r (Begins types vars start (lines_of text))
+  unfolding reading
+  brought s read (Err e) stands = tt
+  brought s read (Ok b) stands = store s b read stands
+
+  -- or its first fault
+  pub unreadable : (fault : StoreFault) → reading types vars text ≡ Err fault → Begins types vars start (lines_of text) (begun.Refused fault)
+  unfolding reading
+  unreadable fault read = refused fault read
