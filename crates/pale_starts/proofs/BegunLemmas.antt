@@ -41,7 +41,7 @@ module _ (types : List TypeEntry) (vars : List VarEntry) (start : Start) (lines 
   pub is_false : (b : Begun) → Begins types vars start lines b → b ≡ begun.StartFalse →
       (s : StoreMap) × (read_text types vars lines ≡ Ok s) × IsWellFormed types vars s × (StartHolds types vars start s → ⊥)
   is_false _ (refused fault read) is = absurd (cc)
-  is_false _ (store s b read stands) is = (s, read, by b stands is)
+  is_false _ (store s b read stands) is = let (well, other) = by b stands is in (s, read, well, other)
     where
       by : (b : Begun) → StandsAt types vars start s b → b ≡ begun.StartFalse → IsWellFormed types vars s × (StartHolds types vars start s → ⊥)
       by _ (not_well_formed other first) same = absurd (cc)

@@ -14,3 +14,6 @@ pub returns-then-not-branch : goal.returns-then-not-branch
 returns-then-not-branch c =
     start_false (c.in_ok-fault.ensures.none.0 c.in_default.is)
     (λ holds. false≢true (sym c.if-not-branch.true ∙ c.in_ok-meets.ensures.1 holds))
+
+pub returns : goal.returns
+returns c = meets (c.in_ok-fault.ensures.none.0 c.in_default.is) (c.in_ok-meets.ensures.0 c.if-not-branch.false)
