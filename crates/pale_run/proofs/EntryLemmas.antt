@@ -34,6 +34,7 @@ module _ (program : TypedProgram) (number : ℕ) (e : ProcEntry) (there : slice_
   -- a store in which its start holds meets it
   pub meets_entry : (s : StoreMap) → IsWellFormed program.types e.vars s → StartHolds program.types e.vars (entry_start e.vars e.proc) s →
       MeetsEntry program number s
+  unfolding first_triple
   meets_entry s well holds = record {
     entry = e;
     there = there;

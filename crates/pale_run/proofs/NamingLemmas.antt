@@ -4,6 +4,8 @@ use Rattle.std.proofs.Common.{option_map, refl, sym, ap, arith}
 use Rattle.std.proofs.lemmas.Bool.Decides.{nat_tests}
 use Rattle.std.proofs.lemmas.Option.{same_Some}
 use Rattle.store_core.proofs.Names.{position-cons}
+use Rattle.pale_typed.specs.declared.typed.ProcEntry.{ProcEntry}
+use Rattle.pale_typed.specs.declared.typed.TypedProc.{TypedProc}
 
 module _ {X : Type 0} (P : X → Bool) where
   -- none of the first so many passes
@@ -45,3 +47,29 @@ module _ {X : Type 0} (P : X → Bool) where
   found_none (y ∷ ys) (suc n) none past =
       position-cons P y ys ∙ ap (λ t. cond t (Some 0) (option_map suc (position P ys))) (first_false y ys n none)
       ∙ ap (option_map suc) (found_none ys n (behind y ys n none) past)
+
+  -- what was found is there
+  pub found_there : (xs : List X) (n : ℕ) → position P xs ≡ Some n → (x : X) × (slice_get xs n ≡ Some x)
+  found_there [] n is = absurd (cc)
+  found_there (y ∷ ys) n is = by (P y) (position P ys) refl n (sym (position-cons P y ys) ∙ is) (found_there ys)
+    where
+      by : (t : Bool) (r : Option ℕ) → position P ys ≡ r → (m : ℕ) → cond t (Some 0) (option_map suc r) ≡ Some m →
+          ((i : ℕ) → position P ys ≡ Some i → (x : X) × (slice_get ys i ≡ Some x)) → (x : X) × (slice_get (y ∷ ys) m ≡ Some x)
+      by true r at m e deeper = let zero_is : 0 ≡ m = cc in (y, ap (λ k. slice_get (y ∷ ys) k) (sym zero_is))
+      by false None at m e deeper = absurd (cc)
+      by false (Some i) at m e deeper =
+          let one : suc i ≡ m = cc in
+          let (x, there) = deeper i at in
+          (x, ap (λ k. slice_get (y ∷ ys) k) (sym one) ∙ there)
+
+-- ---- procedures
+
+-- the entry of a procedure that is there
+pub entry_there : (o : Option ProcEntry) (p : TypedProc) → Some p ≡ option_map (λ (e : ProcEntry). e.proc) o →
+    (e : ProcEntry) × (o ≡ Some e) × (e.proc ≡ p)
+entry_there None p is = absurd (cc)
+entry_there (Some e) p is = (e, refl, sym (same_Some p e.proc is))
+
+pub no_entry : (o : Option ProcEntry) → None ≡ option_map (λ (e : ProcEntry). e.proc) o → o ≡ None
+no_entry None is = refl
+no_entry (Some e) is = absurd (cc)

@@ -1,6 +1,6 @@
 //! The procedure that a line names, and the number of steps.
 
-ghost use Rattle.std.specs.Prelude.{◌≡◌, IfOk, IfErr};
+ghost use Rattle.std.specs.Prelude.{◌≡◌, ◌+◌, IfOk, IfErr};
 ghost use Rattle.std.specs.Str.{bytes_eq};
 ghost use Rattle.pale_typed.specs.declared.typed.ProcEntry.{ProcEntry};
 ghost use Rattle.pale_run.specs.Running.{proc_named, NamesRun, NamesNoRun};
