@@ -1,5 +1,5 @@
 -- The triple that starts at a procedure's entry.
-use Rattle.std.proofs.Common.{◌≡◌, ◌∙◌, ◌≤◌, ◌+◌, ◌<◌, ℕ, List, Option, Some, None, IsSome, slice_get, refl, sym, ap, subst, arith}
+use Rattle.std.proofs.Common.{◌≡◌, ◌∙◌, ◌≤◌, ℕ, Option, Some, None, IsSome, slice_get, refl, sym, ap, subst, arith}
 use Rattle.std.proofs.lemmas.Option.{same_Some}
 use Rattle.store_core.specs.Stores.{StoreMap}
 use Rattle.routing_walks.specs.WellFormed.{IsWellFormed}

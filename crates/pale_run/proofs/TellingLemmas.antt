@@ -5,7 +5,7 @@ use Rattle.std.specs.Prelude.{slice_get, IfOk}
 use Rattle.std.specs.Borrow.{Bor}
 use Rattle.std.proofs.lemmas.Bool.Decides.{nat_tests}
 use Rattle.store_core.specs.Tables.{TypeEntry, VarEntry}
-use Rattle.store_core.specs.Stores.{StoreMap, Fits, IsFresh}
+use Rattle.store_core.specs.Stores.{StoreMap, Fits}
 use Rattle.routing_walks.specs.declared.fault.WfFault.{WfFault}
 use Rattle.routing_walks.specs.WellFormed.{IsWellFormed}
 use Rattle.routing_walks.proofs.FreshLemmas.{IsFresh-well_formed}

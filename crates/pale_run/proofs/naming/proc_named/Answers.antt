@@ -1,4 +1,4 @@
-use Rattle.std.proofs.Common.{◌≡◌, ◌∙◌, ℕ, List, option_map, slice_get, sym, ap, subst}
+use Rattle.std.proofs.Common.{◌∙◌, ℕ, List, option_map, slice_get, sym, ap}
 use Rattle.std.specs.Borrow.{Bor}
 use Rattle.std.specs.Str.{bytes_eq}
 use Rattle.pale_typed.specs.declared.typed.ProcEntry.{ProcEntry}
