@@ -40,7 +40,7 @@ pub fn run_text<K: Sink>(alloc: Global, text: &[u8], sink: &mut K) -> Result<Sta
     ensures kept { K.faults sink.old ≤ K.faults sink.new }
 {
     match run(alloc, text) {
-        Ok(run) => say(sink, run.text.as_slice(), status_of(&run.answer)),
+        Ok(said) => say(sink, said.text.as_slice(), status_of(&said.answer)),
         Err(stop) => refuse(alloc, stop, sink),
     }
 }

@@ -8,7 +8,7 @@ use Rattle.pale_modes.proofs.run.run_text.Goals as goal
 pub returns-in-Ok-clause-ok : goal.returns-in-Ok-clause-ok
 returns-in-Ok-clause-ok g c =
     let text = c.args.text.now in
-    let said = c.in-Ok.run in
+    let said = c.in-Ok.said in
     said_whole (Runs text) (g.K.Sink.written c.args.sink.now) (g.K.Sink.written c.say.new.sink) c.as_slice.result.now c.status_of.result
     (subst (λ (s : Status). Runs text c.as_slice.result.now s) (sym c.status_of.ensures)
     (subst (λ (l : List ℕ). Runs text l (status_of said.answer)) (sym c.as_slice.ensures) (run said.answer said.text c.requires c.in-Ok.ensures.run)))
@@ -17,7 +17,7 @@ returns-in-Ok-clause-ok g c =
 pub returns-in-Ok-clause-err : goal.returns-in-Ok-clause-err
 returns-in-Ok-clause-err g c =
     let text = c.args.text.now in
-    let said = c.in-Ok.run in
+    let said = c.in-Ok.said in
     said_begun (Runs text) (g.K.Sink.written c.args.sink.now) (g.K.Sink.written c.say.new.sink) c.as_slice.result.now c.status_of.result
     (subst (λ (s : Status). Runs text c.as_slice.result.now s) (sym c.status_of.ensures)
     (subst (λ (l : List ℕ). Runs text l (status_of said.answer)) (sym c.as_slice.ensures) (run said.answer said.text c.requires c.in-Ok.ensures.run)))
