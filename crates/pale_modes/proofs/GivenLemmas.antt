@@ -11,6 +11,12 @@ use Rattle.pale_modes.specs.Formatting.{Formats}
 use Rattle.pale_modes.specs.Formatting as formatting
 use Rattle.pale_modes.specs.Replaying.{Replays}
 use Rattle.pale_modes.specs.Replaying as replaying
+use Rattle.whole_exec.specs.declared.answer.Answer as whole
+use Rattle.whole_exec.specs.declared.answer.Answer.TheVariants as ran
+use Rattle.pale_run.specs.declared.answer.Answer as run
+use Rattle.pale_run.specs.declared.answer.Answer.TheVariants as run_answer
+use Rattle.pale_modes.specs.Running.{Runs}
+use Rattle.pale_modes.specs.Running as running
 
 -- an output has one of these
 abbrev pub IsGiven : Status → Type 0
@@ -31,6 +37,22 @@ pub replayed_given : (text output : List ℕ) (status : Status) → Replays text
 replayed_given text output status (replaying.too_long more) = tt
 replayed_given text output status (replaying.refused refusal within stop) = tt
 replayed_given text output status (replaying.replay a line within is) = answer_given a
+
+ran_given : (a : whole.Answer) → IsGiven (running.status_of_ran a)
+ran_given ran.Running = tt
+ran_given (ran.Fail why line) = tt
+ran_given (ran.Exit s) = tt
+
+run_answer_given : (a : run.Answer) → IsGiven (running.status_of a)
+run_answer_given (run_answer.StoreRefused line kind) = tt
+run_answer_given (run_answer.NotWellFormed wrong) = tt
+run_answer_given run_answer.StartFalse = tt
+run_answer_given (run_answer.Ran a) = ran_given a
+
+pub run_given : (text output : List ℕ) (status : Status) → Runs text output status → IsGiven status
+run_given text output status (running.too_long more) = tt
+run_given text output status (running.refused refusal within stop) = tt
+run_given text output status (running.run a written within is) = run_answer_given a
 
 pub formatted_given : (text output : List ℕ) (status : Status) → Formats text output status → IsGiven status
 formatted_given text output status (formatting.too_long more) = tt

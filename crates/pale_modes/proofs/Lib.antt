@@ -4,4 +4,5 @@ pub mod GivenLemmas
 pub mod WrittenLemmas
 pub mod CutLemmas
 pub mod ReplayedLemmas
+pub mod RanLemmas
 mod DecidedLemmas

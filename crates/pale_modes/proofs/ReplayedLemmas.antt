@@ -15,7 +15,7 @@ use Rattle.whole_program.specs.ProgramTexts.{IsReadAs, IsRefusedAs}
 use Rattle.pale_replay.specs.declared.answer.Answer.{Answer}
 use Rattle.pale_parts.specs.Parts.{IsTripleLine}
 use Rattle.pale_replay.specs.Replaying.{NamesTriple, IsRefusedAt, nothing, no_triple_line, no_triple, no_store, SaysOf, IsReplayOf, uncut, cut}
-use Rattle.pale_replay.specs.Replaying.{IsReplayStop, uncut_stop, cut_stop}
+use Rattle.pale_starts.specs.Stops.{IsPartStop, uncut_stop, cut_stop}
 use Rattle.pale_replay.specs.Replaying as saying
 use Rattle.pale_replay.specs.Lines.{line_of}
 use Rattle.pale_modes.specs.declared.status.Status.{Status}
@@ -93,7 +93,7 @@ pub record Laws : Type 0 where
 module _ (laws : Laws) (text : List ℕ) (program : TypedProgram) (t : Triple) (e : ProcEntry) (s : StoreMap)
     (spells : SpellsStore text program t e s) where
   -- its program's part isn't refused
-  not-stopped : (r : Refusal) → IsReplayStop text (stop.Refused r) → ⊥
+  not-stopped : (r : Refusal) → IsPartStop text (stop.Refused r) → ⊥
   not-stopped r (uncut_stop none is) = cut_or_not text spells.part spells.after spells.cut none
   not-stopped r (cut_stop part after again is) =
       let same = one_cut text part spells.part after spells.after again spells.cut in

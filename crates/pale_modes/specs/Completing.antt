@@ -1,5 +1,5 @@
--- Texts without a fault, of which something is said whatever their size: in the mode `replay` of the store that they spell, and in
--- the mode `ws2s` where their Peak is within the limit.
+-- Texts without a fault, of which something is said whatever their size: in the modes `replay` and `run` of the store that they spell,
+-- and in the mode `ws2s` where their Peak is within the limit.
 use Rattle.std.specs.Prelude.{◌≡◌, ℕ, List, ◌∷◌, Ok}
 use Rattle.store_core.specs.Tables.{TypeEntry, VarEntry}
 use Rattle.store_core.specs.Stores.{StoreMap}
@@ -14,12 +14,17 @@ use Rattle.pale_parts.specs.Parts.{IsCutAs}
 use Rattle.pale_replay.specs.Replaying.{NamesTriple}
 use Rattle.pale_replay.specs.Replays.{Replays}
 use Rattle.pale_replay.specs.Lines.{line_of}
+use Rattle.pale_run.specs.declared.answer.Answer as run
+use Rattle.pale_run.specs.Running.{NamesRun}
+use Rattle.pale_run.specs.Runs.{RunsFrom}
+use Rattle.pale_run.specs.Lines.{text_of}
 use Rattle.ws2s_syntax.specs.Checked as checked
 use Rattle.ws2s_read.specs.TextReading.{IsReadAs}
 use Rattle.ws2s_answer.specs.Within.{IsPeakWithin}
 use Rattle.pale_modes.specs.declared.status.Status.{Status}
 use Rattle.pale_modes.specs.Deciding.{HasSmallFormulas}
 use Rattle.pale_modes.specs.Replaying.{status_of}
+use Rattle.pale_modes.specs.Running as running
 
 -- the text is that of a program without a fault, a line `---`, a line that names this triple of this procedure, and the text of
 -- this store
@@ -41,6 +46,27 @@ pub record TellsStore (types : List TypeEntry) (vars : List VarEntry) (t : Tripl
   pub comes : Replays types vars t s answer
   pub told : line ≡ line_of types vars answer
   pub ends : status ≡ status_of answer
+
+-- the text is that of a program without a fault, a line `---`, a line that names this procedure, which has this number, and so many
+-- steps, and the text of this store
+pub record SpellsRun (text : List ℕ) (program : TypedProgram) (number steps : ℕ) (e : ProcEntry) (s : StoreMap) : Type 0 where
+  pub part : List ℕ
+  pub after : List ℕ
+  pub cut : IsCutAs text part after
+  pub triples : List Triple
+  pub read : programs.IsReadAs part program triples
+  pub first : List ℕ
+  pub lines : List (List ℕ)
+  pub begins : lines_of after ≡ first ∷ lines
+  pub named : NamesRun program first number steps e
+  pub store : read_text program.types e.vars lines ≡ Ok s
+
+-- the text that is written and the status are those of what comes of the store in the procedure's run
+pub record TellsRun (program : TypedProgram) (number steps : ℕ) (e : ProcEntry) (s : StoreMap) (written : List ℕ) (status : Status) : Type 0 where
+  pub answer : run.Answer
+  pub comes : RunsFrom program number steps e s answer
+  pub told : written ≡ text_of program.types e.vars answer
+  pub ends : status ≡ running.status_of answer
 
 -- the text is that of this tree, both of whose formulas are small enough to be decided, and whose Peak isn't above the limit
 pub record IsWithinPeak (limit : ℕ) (text : List ℕ) (tree : checked.Text) : Type 0 where

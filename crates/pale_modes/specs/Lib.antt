@@ -3,6 +3,7 @@ pub mod Deciding
 pub mod Formatting
 pub mod Replaying
 pub mod Report
+pub mod Running
 pub mod Statuses
 pub mod Texts
 pub mod Written

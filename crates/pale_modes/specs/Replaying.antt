@@ -4,7 +4,8 @@ use Rattle.pale_text.specs.declared.refusal.Refusal.{Refusal}
 use Rattle.pale_text.specs.declared.refusal.TextStop.TheVariants as stop
 use Rattle.pale_replay.specs.declared.answer.Answer.{Answer}
 use Rattle.pale_replay.specs.declared.answer.Answer.TheVariants as answer
-use Rattle.pale_replay.specs.Replaying.{IsReplayOf, IsReplayStop}
+use Rattle.pale_starts.specs.Stops.{IsPartStop}
+use Rattle.pale_replay.specs.Replaying.{IsReplayOf}
 use Rattle.pale_modes.specs.declared.status.Status.{Status}
 use Rattle.pale_modes.specs.declared.status.Status.TheVariants.{Good, Bad, Text}
 use Rattle.pale_modes.specs.Report.{refused_line, too_long_line}
@@ -21,5 +22,5 @@ status_of (answer.Ends line) = Good
 -- what is written for a text, and the status: the text has too many bytes, its program is refused, or this is said of its store
 pub data Replays (text : List ℕ) : List ℕ → Status → Type 0 where
   too_long : most_bytes < length text → Replays text too_long_line Text
-  refused : (refusal : Refusal) → length text ≤ most_bytes → IsReplayStop text (stop.Refused refusal) → Replays text (refused_line refusal) Text
+  refused : (refusal : Refusal) → length text ≤ most_bytes → IsPartStop text (stop.Refused refusal) → Replays text (refused_line refusal) Text
   replay : (a : Answer) (line : List ℕ) → length text ≤ most_bytes → IsReplayOf text a line → Replays text line (status_of a)

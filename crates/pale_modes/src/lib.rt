@@ -1,8 +1,8 @@
-//! The modes that judge no program: `replay`, `format` and `ws2s`, each over a text and a sink of bytes, and what every mode
+//! The modes that judge no program: `replay`, `run`, `format` and `ws2s`, each over a text and a sink of bytes, and what every mode
 //! shares: the status of a call, the lines and numbers that any mode may write, and how a call ends after what its sink left.
 //!
-//! `specs/Replaying.antt`, `specs/Formatting.antt` and `specs/Deciding.antt` say what each of the three writes for a text and
-//! with which status; `specs/Written.antt` says what a sink was told of an allowed output, and `specs/Completing.antt` of which
+//! `specs/Replaying.antt`, `specs/Running.antt`, `specs/Formatting.antt` and `specs/Deciding.antt` say what each of the four writes
+//! for a text and with which status; `specs/Written.antt` says what a sink was told of an allowed output, and `specs/Completing.antt` of which
 //! texts something is said whatever their size.
 #![tactic(auto)]
 
@@ -12,6 +12,7 @@ mod format;
 mod laws;
 mod replay;
 mod report;
+mod run;
 mod status;
 mod writing;
 
@@ -21,6 +22,7 @@ pub use format::format_text;
 pub use laws::formatting_is_one;
 pub use replay::replay_text;
 pub use report::refuse;
+pub use run::run_text;
 pub use status::Status;
 pub use store_words::push_number;
 pub use writing::{ended, say};

@@ -19,22 +19,26 @@ use Rattle.pale_parts.specs.Parts.{cut_line, HasNoCut, IsCutAs, IsTripleLine}
 
 -- ---- lines
 
-at_cons : (b : ℕ) (bs : List ℕ) (r : Option ℕ) (t : Bool) (i : ℕ) → (b == 10) ≡ t → cond t (Some 0) (option_map suc r) ≡ Some i →
-    ((j : ℕ) → r ≡ Some j → bs ≡ take j bs ++ 10 ∷ drop (suc j) bs) → b ∷ bs ≡ take i (b ∷ bs) ++ 10 ∷ drop (suc i) (b ∷ bs)
-at_cons b bs r true i is e deeper =
-    let here : b ≡ 10 = grind (arith, nat_tests) in
+at_cons : (byte b : ℕ) (bs : List ℕ) (r : Option ℕ) (t : Bool) (i : ℕ) → (b == byte) ≡ t → cond t (Some 0) (option_map suc r) ≡ Some i →
+    ((j : ℕ) → r ≡ Some j → bs ≡ take j bs ++ byte ∷ drop (suc j) bs) → b ∷ bs ≡ take i (b ∷ bs) ++ byte ∷ drop (suc i) (b ∷ bs)
+at_cons byte b bs r true i is e deeper =
+    let here : b ≡ byte = grind (arith, nat_tests) in
     let zero_is : 0 ≡ i = cc in
-    ap (λ n. n ∷ bs) here ∙ ap (λ n. take n (b ∷ bs) ++ 10 ∷ drop (suc n) (b ∷ bs)) zero_is
-at_cons b bs None false i is e deeper = absurd (cc)
-at_cons b bs (Some j) false i is e deeper =
+    ap (λ n. n ∷ bs) here ∙ ap (λ n. take n (b ∷ bs) ++ byte ∷ drop (suc n) (b ∷ bs)) zero_is
+at_cons byte b bs None false i is e deeper = absurd (cc)
+at_cons byte b bs (Some j) false i is e deeper =
     let suc_is : suc j ≡ i = cc in
-    ap (λ l. b ∷ l) (deeper j refl) ∙ ap (λ n. take n (b ∷ bs) ++ 10 ∷ drop (suc n) (b ∷ bs)) suc_is
+    ap (λ l. b ∷ l) (deeper j refl) ∙ ap (λ n. take n (b ∷ bs) ++ byte ∷ drop (suc n) (b ∷ bs)) suc_is
+
+-- the first such byte stands between what stands before it and what follows it
+pub cut_at_byte : (byte : ℕ) (text : List ℕ) (i : ℕ) → position (λ b. b == byte) text ≡ Some i → text ≡ take i text ++ byte ∷ drop (suc i) text
+cut_at_byte byte [] i e = absurd (cc)
+cut_at_byte byte (b ∷ bs) i e =
+    at_cons byte b bs (position (λ c. c == byte) bs) (b == byte) i refl (sym (position-cons (λ c. c == byte) b bs) ∙ e) (λ j. cut_at_byte byte bs j)
 
 -- an LF stands between the first line and what follows it
 pub cut_at_lf : (text : List ℕ) (i : ℕ) → position (λ b. b == 10) text ≡ Some i → text ≡ take i text ++ 10 ∷ drop (suc i) text
-cut_at_lf [] i e = absurd (cc)
-cut_at_lf (b ∷ bs) i e =
-    at_cons b bs (position (λ c. c == 10) bs) (b == 10) i refl (sym (position-cons (λ c. c == 10) b bs) ∙ e) (λ j. cut_at_lf bs j)
+cut_at_lf = cut_at_byte 10
 
 lines-onto : (t : Bool) (b : ℕ) (ls ms more : List (List ℕ)) (x : List ℕ) (xs : List (List ℕ)) → ms ≡ ls ++ more → ls ≡ x ∷ xs →
     cond t ([] ∷ ms) (onto_first b ms) ≡ cond t ([] ∷ ls) (onto_first b ls) ++ more

@@ -1,7 +1,7 @@
 -- The parts of a text that has more than a program: the program, a line `---`, and then a line that asks for something, as `triple K`.
-use Rattle.std.specs.Prelude.{◌≡◌, ◌⊎◌, ℕ, List, [], ◌∷◌, ◌++◌, codes, Some, Contains}
+use Rattle.std.specs.Prelude.{◌≡◌, ◌⊎◌, ◌≤◌, ℕ, List, [], ◌∷◌, ◌++◌, codes, Some, Contains, IsTrue}
 use Rattle.store_text.specs.Lines.{lines_of}
-use Rattle.store_text.specs.Spelling.{number_of}
+use Rattle.store_text.specs.Spelling.{is_name, number_of}
 
 -- the line between the two parts
 abbrev pub cut_line : List ℕ
@@ -22,3 +22,11 @@ pub record IsTripleLine (line : List ℕ) (number : ℕ) : Type 0 where
   pub word : List ℕ
   pub spelled : line ≡ codes "triple " ++ word
   pub counted : number_of word ≡ Some number
+
+-- the line `run PROC STEPS`, with a name, a space (32), and a number of steps from 1 to 100,000
+pub record IsRunLine (line name : List ℕ) (steps : ℕ) : Type 0 where
+  pub word : List ℕ
+  pub spelled : line ≡ codes "run " ++ name ++ 32 ∷ word
+  pub named : IsTrue (is_name name)
+  pub counted : number_of word ≡ Some steps
+  pub few : steps ≤ 100000

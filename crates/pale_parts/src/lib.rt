@@ -5,6 +5,8 @@
 
 mod parts;
 mod request;
+mod run_line;
 
 pub use parts::{cut_text, split_line, triple_in};
 pub use request::{Request, RequestFault, RequestKind, request_in, request_line};
+pub use run_line::run_in;

@@ -70,7 +70,7 @@ fn number_after(digits: &[u8]) -> Option<u32>
 
 /// The number that a word spells: 1 to 1,000,000, without a leading zero.
 #[tactic(auto, unfolding(store_text::specs::Spelling::number_of))]
-fn number_of(word: &[u8]) -> Option<u32>
+pub(crate) fn number_of(word: &[u8]) -> Option<u32>
     ensures { result ≡ number_of word.now }
 {
     let Some((first, _)) = word.split_first() else {

@@ -1,5 +1,5 @@
 -- What is said of a store text in a triple.
-use Rattle.std.proofs.Common.{◌≡◌, ◌+◌, ◌-◌, ◌<◌, ◌==◌, ℕ, suc, true, List, [], ◌∷◌, length, Option, Some, None, Ok, Err, option_map, sym, ap, ◌∙◌, subst}
+use Rattle.std.proofs.Common.{◌≡◌, ◌+◌, ◌-◌, ◌<◌, ◌≤◌, ◌==◌, ℕ, suc, true, List, [], ◌∷◌, length, Option, Some, None, Ok, Err, option_map, sym, ap, ◌∙◌, subst}
 use Rattle.std.proofs.Common.{Result, IfSome, IfNone, arith, refl}
 use Rattle.std.specs.Prelude.{slice_get, IfOk, IfErr, IsErrAnd}
 use Rattle.std.proofs.lemmas.Bool.Decides.{nat_tests}
@@ -10,22 +10,31 @@ use Rattle.store_text.specs.declared.fault.StoreFault.{StoreFault}
 use Rattle.store_text.specs.declared.fault.StoreKind.TheVariants.{Missing, Syntax, UnknownName}
 use Rattle.store_text.specs.declared.fault.StoreKind.{StoreKind}
 use Rattle.store_text.specs.Lines.{lines_of}
-use Rattle.store_text.specs.Reading.{reading, read_text}
+use Rattle.store_text.specs.Reading.{read_text}
 use Rattle.store_exec.specs.declared.triple.Triple.{Triple}
 use Rattle.store_exec.specs.Fits.{TripleFits}
-use Rattle.pale_text.specs.declared.refusal.TextStop.{TextStop}
 use Rattle.pale_typed.specs.declared.typed.ProcEntry.{ProcEntry}
 use Rattle.pale_typed.specs.TypedPrograms.{TypedProgram}
 use Rattle.hoare_split.specs.Fitting.{FitsProgram, IsShort}
-use Rattle.whole_program.specs.ProgramTexts.{IsReadAs, IsStopOf}
+use Rattle.whole_program.specs.ProgramTexts.{IsReadAs}
 use Rattle.pale_replay.specs.declared.answer.Answer.{Answer}
 use Rattle.pale_replay.specs.declared.answer.Replay.{Replay}
 use Rattle.pale_replay.specs.declared.answer.Answer.TheVariants.{StoreRefused}
-use Rattle.pale_replay.specs.Lines.{line_of, store_refused_line}
-use Rattle.pale_replay.specs.Replays.{Replays}
+use Rattle.pale_replay.specs.declared.answer.Answer.TheVariants as answer
+use Rattle.pale_starts.specs.Lines.{store_refused_line}
+use Rattle.pale_starts.specs.declared.begun.Begun.{Begun}
+use Rattle.pale_starts.specs.declared.begun.Begun.TheVariants as begun
+use Rattle.pale_starts.specs.Begins.{Begins}
+use Rattle.pale_starts.proofs.BegunLemmas.{is_refused, is_ill, is_false, is_met}
+use Rattle.pale_starts.proofs.NumberLemmas.{read_small}
+use Rattle.routing_walks.specs.declared.fault.WfFault.{WfFault}
+use Rattle.routing_walks.specs.WellFormed.{IsWellFormed}
+use Rattle.store_exec.specs.Failing.{StartHolds, Meets}
+use Rattle.pale_replay.specs.Lines.{line_of}
+use Rattle.pale_replay.specs.Replays.{Replays, not_well_formed, start_false}
 use Rattle.pale_parts.specs.Parts.{IsCutAs, HasNoCut, IsTripleLine}
 use Rattle.pale_replay.specs.Replaying.{NamesTriple, IsRefusedAt, nothing, no_triple_line, no_triple, no_store, SaysOf, refused, store}
-use Rattle.pale_replay.specs.Replaying.{IsReplayOf, uncut, cut, IsReplayStop, uncut_stop, cut_stop}
+use Rattle.pale_replay.specs.Replaying.{IsReplayOf, uncut, cut}
 use Rattle.pale_replay.specs.Running.{CanBeRun}
 
 -- a replay says this answer in this line
@@ -81,23 +90,49 @@ module _ (program : TypedProgram) (t : Triple) (types : List TypeEntry) (vars : 
     says_fault fault read =
         refused (first ∷ lines) (fault.line + 1) fault.kind (no_store first lines t e fault names (own_types (λ ts vs. read_text ts vs lines ≡ Err fault) read))
 
-  pub says_read : {E : Type 0} (triples : List Triple) (text : List ℕ) (s : StoreMap) (a : Answer) → reading types vars text ≡ Ok s →
-      Replays types vars t s a → (r : Result Replay E) → IfOk r (Says a (line_of types vars a)) → IfOk r (SaysOfText program triples t text)
-  unfolding reading
-  says_read triples text s a read replays (Err e) says = tt
-  says_read triples text s a read replays (Ok r) says = λ first e names.
-      by_words (SaysOf program triples (first ∷ lines_of text)) a (line_of types vars a) r says
-      (says_store triples first (lines_of text) e names s a (line_of types vars a) read replays refl)
+  -- by what came of it at the triple's start
+  module _ (triples : List Triple) (text : List ℕ) (b : Begun) (begun_so : Begins types vars t.start (lines_of text) b) where
+    says_begun : {E : Type 0} (s : StoreMap) (a : Answer) → read_text types vars (lines_of text) ≡ Ok s → Replays types vars t s a → (r : Result Replay E) →
+        IfOk r (Says a (line_of types vars a)) → IfOk r (SaysOfText program triples t text)
+    says_begun s a read replays (Err e) says = tt
+    says_begun s a read replays (Ok r) says = λ first e names.
+        by_words (SaysOf program triples (first ∷ lines_of text)) a (line_of types vars a) r says
+        (says_store triples first (lines_of text) e names s a (line_of types vars a) read replays refl)
 
-  pub says_unread : {E : Type 0} (triples : List Triple) (text : List ℕ) (fault : StoreFault) → reading types vars text ≡ Err fault → (n : ℕ) →
-      n ≡ fault.line → (r : Result Replay E) → IfOk r (Says (StoreRefused (n + 1) fault.kind) (store_refused_line (n + 1) fault.kind)) →
-      IfOk r (SaysOfText program triples t text)
-  unfolding reading
-  says_unread triples text fault read n is (Err e) says = tt
-  says_unread triples text fault read n is (Ok r) says = λ first e names.
-      by_words (SaysOf program triples (first ∷ lines_of text)) (StoreRefused (n + 1) fault.kind) (store_refused_line (n + 1) fault.kind) r says
-      (subst (λ (k : ℕ). SaysOf program triples (first ∷ lines_of text) (StoreRefused (k + 1) fault.kind) (store_refused_line (k + 1) fault.kind))
-      (sym is) (says_fault triples first (lines_of text) e names fault read))
+    pub says_ill : {E : Type 0} (wrong : WfFault) → b ≡ begun.NotWellFormed wrong → (r : Result Replay E) →
+        IfOk r (Says (answer.NotWellFormed wrong) (line_of types vars (answer.NotWellFormed wrong))) → IfOk r (SaysOfText program triples t text)
+    says_ill wrong is =
+        let (s, read, first) = is_ill types vars t.start (lines_of text) b begun_so wrong is in
+        says_begun s (answer.NotWellFormed wrong) read (not_well_formed wrong first)
+
+    pub says_false : {E : Type 0} → b ≡ begun.StartFalse → (r : Result Replay E) →
+        IfOk r (Says answer.StartFalse (line_of types vars answer.StartFalse)) → IfOk r (SaysOfText program triples t text)
+    says_false is =
+        let (s, read, well, other) = is_false types vars t.start (lines_of text) b begun_so is in
+        says_begun s answer.StartFalse read (start_false well other)
+
+    -- the store that met it
+    module _ (s : StoreMap) (is : b ≡ begun.Meets s) where
+      met : (read_text types vars (lines_of text) ≡ Ok s) × IsWellFormed types vars s × StartHolds types vars t.start s
+      met = is_met types vars t.start (lines_of text) b begun_so s is
+
+      pub meets_so : Meets types vars t s
+      meets_so = let (read, well, holds) = met in record { well_formed = well; start = holds }
+
+      pub small_so : s.next ≤ 1000001
+      small_so = read_small types vars (lines_of text) s met.0
+
+      pub says_met : {E : Type 0} (a : Answer) → Replays types vars t s a → (r : Result Replay E) → IfOk r (Says a (line_of types vars a)) →
+          IfOk r (SaysOfText program triples t text)
+      says_met a = says_begun s a met.0
+
+    pub says_unread : {E : Type 0} (fault : StoreFault) → b ≡ begun.Refused fault → (n : ℕ) → n ≡ fault.line → (r : Result Replay E) →
+        IfOk r (Says (StoreRefused (n + 1) fault.kind) (store_refused_line (n + 1) fault.kind)) → IfOk r (SaysOfText program triples t text)
+    says_unread fault is n same (Err e) says = tt
+    says_unread fault is n same (Ok r) says = λ first e names.
+        by_words (SaysOf program triples (first ∷ lines_of text)) (StoreRefused (n + 1) fault.kind) (store_refused_line (n + 1) fault.kind) r says
+        (subst (λ (k : ℕ). SaysOf program triples (first ∷ lines_of text) (StoreRefused (k + 1) fault.kind) (store_refused_line (k + 1) fault.kind))
+        (sym same) (says_fault triples first (lines_of text) e names fault (is_refused types vars t.start (lines_of text) b begun_so fault is)))
 
 -- ---- the part after `---`
 
@@ -149,15 +184,3 @@ uncut_replay text program part is whole typed triples read r says =
     let uncut_is = subst (λ (o : Option (Bor (List ℕ))). IfNone o ((program ≡ text) × HasNoCut text)) is whole in
     by_words (IsReplayOf text) (StoreRefused 0 Missing) (store_refused_line 0 Missing) r says
     (uncut typed triples uncut_is.1 (subst (λ (l : List ℕ). IsReadAs l typed triples) uncut_is.0 read))
-
--- a stop of the program's part, where the text is cut or isn't
-pub stop_of_parts : (text program : List ℕ) (part : Option (Bor (List ℕ))) → IfSome part (λ after. IsCutAs text program after.now) →
-    IfNone part ((program ≡ text) × HasNoCut text) → (e : TextStop) → IsStopOf program e → IsReplayStop text e
-stop_of_parts text program None cut_so whole e is = uncut_stop whole.1 (subst (λ (l : List ℕ). IsStopOf l e) whole.0 is)
-stop_of_parts text program (Some after) cut_so whole e is = cut_stop program after.now cut_so is
-
--- a `?` hands a stop on
-pub handed_on : {X : Type 0} (text : List ℕ) (r : Result X TextStop) (e : TextStop) → IsErrAnd r (λ y. y ≡ e) → IsReplayStop text e →
-    IfErr r (IsReplayStop text)
-handed_on text (Ok x) e is said = absurd is
-handed_on text (Err y) e is said = subst (IsReplayStop text) (sym is) said

@@ -7,14 +7,14 @@ use Rattle.store_text.specs.declared.fault.StoreKind.{StoreKind}
 use Rattle.store_text.specs.declared.fault.StoreKind.TheVariants.{Missing, Syntax, UnknownName}
 use Rattle.store_text.specs.Lines.{lines_of}
 use Rattle.store_text.specs.Reading.{read_text}
-use Rattle.pale_text.specs.declared.refusal.TextStop.{TextStop}
 use Rattle.pale_typed.specs.declared.typed.ProcEntry.{ProcEntry}
 use Rattle.pale_typed.specs.TypedPrograms.{TypedProgram}
-use Rattle.whole_program.specs.ProgramTexts.{IsReadAs, IsStopOf}
+use Rattle.whole_program.specs.ProgramTexts.{IsReadAs}
 use Rattle.pale_replay.specs.declared.answer.Answer.{Answer}
 use Rattle.pale_replay.specs.declared.answer.Answer.TheVariants.{StoreRefused}
 use Rattle.pale_parts.specs.Parts.{IsCutAs, HasNoCut, IsTripleLine}
-use Rattle.pale_replay.specs.Lines.{line_of, store_refused_line}
+use Rattle.pale_starts.specs.Lines.{store_refused_line}
+use Rattle.pale_replay.specs.Lines.{line_of}
 use Rattle.pale_replay.specs.Replays.{Replays}
 
 -- ---- the part after `---`
@@ -55,8 +55,3 @@ pub data IsReplayOf (text : List ℕ) : Answer → List ℕ → Type 0 where
       → IsReplayOf text (StoreRefused 0 Missing) (store_refused_line 0 Missing)
   cut : (part after : List ℕ) (program : TypedProgram) (triples : List Triple) (a : Answer) (line : List ℕ) → IsCutAs text part after
       → IsReadAs part program triples → SaysOf program triples (lines_of after) a line → IsReplayOf text a line
-
--- what a stop says of a text: a refusal is that of its program's part, which is all of it where it has no line `---`
-pub data IsReplayStop (text : List ℕ) (stop : TextStop) : Type 0 where
-  uncut_stop : HasNoCut text → IsStopOf text stop → IsReplayStop text stop
-  cut_stop : (part after : List ℕ) → IsCutAs text part after → IsStopOf part stop → IsReplayStop text stop

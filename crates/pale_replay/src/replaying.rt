@@ -3,16 +3,18 @@
 ghost use Rattle.std.specs.Prelude.{◌<◌, ◌∷◌, length, IfOk, IfErr, All, List, ℕ};
 ghost use Rattle.store_text.specs.Lines.{lines_of};
 ghost use Rattle.hoare_split.specs.Fitting.{FitsProgram, IsShort};
-ghost use Rattle.pale_replay.specs.Replaying.{SaysOf, NamesTriple, IsReplayOf, IsReplayStop};
+ghost use Rattle.pale_starts.specs.Stops.{IsPartStop};
+ghost use Rattle.pale_replay.specs.Replaying.{SaysOf, NamesTriple, IsReplayOf};
 
-use crate::answer::Replay;
+use crate::answer::{Answer, Replay};
 use crate::lines::{store_refused, told};
-use crate::stores::replay_store;
+use crate::stores::execute;
 use pale_parts::{cut_text, split_line, triple_in};
+use pale_starts::{Begun, begin};
 use pale_text::TextStop;
 use std::alloc::{AllocError, Global};
 use store_exec::Triple;
-use store_text::{StoreKind, read_store, read_stores_fit};
+use store_text::StoreKind;
 use whole_program::{WholeProgram, read_program};
 
 /// What is said of a store text in a triple of the program. The text begins at line 2 of its part.
@@ -28,18 +30,18 @@ fn replay_text(
     ensures { IfOk result (λ r. (first : List ℕ) → (e : _) → NamesTriple whole.now.typed whole.now.triples first triple.now e →
         SaysOf whole.now.typed whole.now.triples (first ∷ lines_of text.now) r.answer r.line) }
 {
-    read_stores_fit();
     let types = whole.typed.types();
     let Some(vars) = whole.typed.vars(triple.proc) else {
         unreachable!()
     };
-    match read_store(alloc, types, vars, text) {
-        Ok(store) => {
-            let answer = replay_store(alloc, types, vars, triple, store)?;
+    match begin(alloc, types, vars, &triple.start, text)? {
+        Begun::Refused(fault) => store_refused(alloc, u64::from(fault.line) + 1, fault.kind),
+        Begun::NotWellFormed(fault) => told(alloc, types, vars, Answer::NotWellFormed(fault)),
+        Begun::StartFalse => told(alloc, types, vars, Answer::StartFalse),
+        Begun::Meets(store) => {
+            let answer = execute(alloc, types, vars, triple, store)?;
             told(alloc, types, vars, answer)
         }
-        Err(fault) if fault.kind == StoreKind::NoMemory => Err(AllocError),
-        Err(fault) => store_refused(alloc, u64::from(fault.line) + 1, fault.kind),
     }
 }
 
@@ -71,7 +73,7 @@ fn replay_part(alloc: Global, whole: &WholeProgram, part: &[u8]) -> Result<Repla
 pub fn replay(alloc: Global, text: &[u8]) -> Result<Replay, TextStop>
     requires { length text.now < u32.MAX }
     ensures replay { IfOk result (λ r. IsReplayOf text.now r.answer r.line) }
-    ensures stop { IfErr result (IsReplayStop text.now) }
+    ensures stop { IfErr result (IsPartStop text.now) }
 {
     let (program, part) = cut_text(text);
     let whole = read_program(alloc, program)?;

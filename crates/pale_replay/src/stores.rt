@@ -1,4 +1,4 @@
-//! A store in a triple.
+//! A store that meets a triple, executed.
 
 ghost use Rattle.std.specs.Prelude.{◌≡◌, ◌≤◌, ◌<◌, ◌+◌, length, IfOk};
 ghost use Rattle.store_core.specs.Stores.{StoreMap, Fits, IsFresh};
@@ -9,12 +9,11 @@ ghost use Rattle.pale_replay.specs.Replays.{Replays};
 ghost use Rattle.pale_replay.specs.Running.{CanBeRun};
 
 use crate::answer::Answer;
-use routing_expr::well_formed;
 use routing_walks::well_formed_stores_are_fresh;
 use std::alloc::{AllocError, Global};
 use store_core::{Store, TypeTable, VarTable};
 use store_exec::{Outcome, Triple, codes_keep_stores_fitting};
-use store_runner::{at_cut, meets, run};
+use store_runner::{at_cut, run};
 
 /// What comes of a store with which the triple's code ends at the cut at this place.
 fn arrive(
@@ -41,7 +40,7 @@ fn arrive(
 }
 
 /// What comes of a store that meets the triple.
-fn execute(
+pub(crate) fn execute(
     alloc: Global,
     types: &TypeTable,
     vars: &VarTable,
@@ -59,26 +58,4 @@ fn execute(
         Outcome::Fail(cause, line) => Ok(Answer::Fails(cause, line)),
         Outcome::End(place, after) => arrive(alloc, types, vars, triple, place, &after),
     }
-}
-
-/// What comes of a store in a triple.
-pub(crate) fn replay_store(
-    alloc: Global,
-    types: &TypeTable,
-    vars: &VarTable,
-    triple: &Triple,
-    store: Store,
-) -> Result<Answer, AllocError>
-    requires triple { CanBeRun types.now vars.now triple.now }
-    requires store { Fits types.now vars.now store }
-    requires numbers { store.next ≤ 1000001 }
-    ensures { IfOk result (Replays types.now vars.now triple.now store) }
-{
-    if let Some(fault) = well_formed(alloc, types, vars, &store)? {
-        return Ok(Answer::NotWellFormed(fault));
-    }
-    if !meets(alloc, types, vars, &triple.start, &store)? {
-        return Ok(Answer::StartFalse);
-    }
-    execute(alloc, types, vars, triple, store)
 }

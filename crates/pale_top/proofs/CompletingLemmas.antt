@@ -13,7 +13,7 @@ use Rattle.ws2s_syntax.specs.Checked as checked
 use Rattle.pale_generator.specs.Generated.{program_text}
 use Rattle.pale_io.specs.Whole.{WritesAll}
 use Rattle.pale_words.specs.declared.words.Mode.{Mode}
-use Rattle.pale_words.specs.declared.words.Mode.TheVariants.{Check, Replay, Format, Ws2s, Judge, Meet, Gen}
+use Rattle.pale_words.specs.declared.words.Mode.TheVariants.{Check, Replay, Format, Ws2s, Judge, Meet, Run, Gen}
 use Rattle.pale_words.specs.declared.words.Settings.{Settings}
 use Rattle.pale_words.specs.Words.{AsksFor, Gives, IsRefused}
 use Rattle.pale_words.proofs.GivesLemmas.{not_refused, same_limit, same_mode}
@@ -24,9 +24,11 @@ use Rattle.pale_modes.specs.Deciding.{Decides, Says}
 use Rattle.pale_modes.specs.Formatting.{Formats}
 use Rattle.pale_modes.specs.Formatting as formatting
 use Rattle.pale_modes.specs.Replaying.{Replays}
+use Rattle.pale_modes.specs.Running.{Runs}
 use Rattle.pale_modes.specs.Texts.{most_bytes}
 use Rattle.pale_modes.specs.Written.{Wrote}
 use Rattle.pale_modes.proofs.ReplayedLemmas as replayed
+use Rattle.pale_modes.proofs.RanLemmas.{ran_so}
 use Rattle.program_judge.specs.declared.ways.Ending.{Ending}
 use Rattle.program_judge.specs.declared.ways.FieldWay.{FieldWay}
 use Rattle.program_judge.specs.declared.ways.TripleWay.{TripleWay}
@@ -45,7 +47,7 @@ use Rattle.program_judge.specs.Meets.{ReportsMeets, AreStartsDecided}
 use Rattle.pale_top.proofs.JudgedLemmas as judged
 use Rattle.pale_top.specs.Generating.{Counts, Gens, Tells}
 use Rattle.pale_top.specs.Generating as generating
-use Rattle.pale_top.specs.Output.{CallOutput, Output, check, replay, format, ws2s, judge, meet, generated}
+use Rattle.pale_top.specs.Output.{CallOutput, Output, check, replay, format, ws2s, judge, meet, run, generated}
 use Rattle.pale_top.specs.Output as called
 
 -- what the layers below say of readings, reports and outputs
@@ -76,13 +78,14 @@ same_seed : (words : List (List ℕ)) (one other : Settings) → Gives words one
 same_seed words one other a b = same_Some one.seed other.seed (sym a.values.seed ∙ b.values.seed)
 
 -- what is written for a text in this mode, with this limit and seed, and the status
-abbrev OutputOf : Mode → ℕ → ℕ → List ℕ → List ℕ → Status → Type 0
+abbrev pub OutputOf : Mode → ℕ → ℕ → List ℕ → List ℕ → Status → Type 0
 OutputOf Check limit seed text output status = Checks limit text output status
 OutputOf Replay limit seed text output status = Replays text output status
 OutputOf Format limit seed text output status = Formats text output status
 OutputOf Ws2s limit seed text output status = Decides limit text output status
 OutputOf Judge limit seed text output status = Judges limit text output status
 OutputOf Meet limit seed text output status = MeetsText limit text output status
+OutputOf Run limit seed text output status = Runs text output status
 OutputOf Gen limit seed text output status = Gens limit seed output status
 
 output_of : (settings : Settings) (mode : Mode) → settings.mode ≡ mode → (text output : List ℕ) (status : Status) →
@@ -99,11 +102,13 @@ output_of settings mode asks text output status (judge is written answer judges)
     subst (λ (m : Mode). OutputOf m settings.limit settings.seed text output status) (sym is ∙ asks) judges
 output_of settings mode asks text output status (meet is written answer meets) =
     subst (λ (m : Mode). OutputOf m settings.limit settings.seed text output status) (sym is ∙ asks) meets
+output_of settings mode asks text output status (run is written answer runs) =
+    subst (λ (m : Mode). OutputOf m settings.limit settings.seed text output status) (sym is ∙ asks) runs
 output_of settings mode asks text output status (generated is written answer gens) =
     subst (λ (m : Mode). OutputOf m settings.limit settings.seed text output status) (sym is ∙ asks) gens
 
 -- and by the words, whose mode, limit and seed are one
-call_of : (words : List (List ℕ)) (text output : List ℕ) (status : Status) → CallOutput words text output status → (other : Settings) →
+pub call_of : (words : List (List ℕ)) (text output : List ℕ) (status : Status) → CallOutput words text output status → (other : Settings) →
     Gives words other → (mode : Mode) → other.mode ≡ mode → OutputOf mode other.limit other.seed text output status
 call_of words text _ _ (called.refused refuses) other given mode asks = absurd (not_refused words other given refuses)
 call_of words text _ _ (called.given settings gives written answer out) other given mode asks =
@@ -159,6 +164,11 @@ module _ (laws : Laws) (text : List ℕ) (short : length text ≤ most_bytes) wh
     replay = λ asks program t e s spells. record {
       output = wrote.output;
       allowed = replayed.replayed (record { one = laws.one; apart = laws.apart }) text program t e s spells wrote.output status short (by Replay asks);
+      written = wrote.written;
+    };
+    run = λ asks program number steps e s spells. record {
+      output = wrote.output;
+      allowed = ran_so (record { one = laws.one; apart = laws.apart }) text program number steps e s spells wrote.output status short (by Run asks);
       written = wrote.written;
     };
     judge = λ asks program triples r spells. record {
@@ -236,6 +246,7 @@ none_completed settings gen text before after status = record {
   ws2s = λ asks tree within. absurd (let bad : Ws2s ≡ Gen = sym asks ∙ gen in cc);
   judge = λ asks program triples r spells. absurd (let bad : Judge ≡ Gen = sym asks ∙ gen in cc);
   meet = λ asks program triples read. absurd (let bad : Meet ≡ Gen = sym asks ∙ gen in cc);
+  run = λ asks program number steps e s spells. absurd (let bad : Run ≡ Gen = sym asks ∙ gen in cc);
   replay = λ asks program t e s spells. absurd (let bad : Replay ≡ Gen = sym asks ∙ gen in cc);
   format = λ asks tree is. absurd (let bad : Format ≡ Gen = sym asks ∙ gen in cc);
 }

@@ -15,7 +15,7 @@ use Rattle.pale_parts.specs.declared.request.Request.{Request}
 use Rattle.pale_parts.specs.declared.request.Request.TheVariants as request
 use Rattle.pale_parts.specs.declared.request.RequestFault.{RequestFault}
 use Rattle.pale_parts.specs.Requests.{Asks, fields, triple, IsRequest, IsRequestFault, nothing, no_form, no_triple, too_much}
-use Rattle.pale_replay.specs.Replaying.{IsReplayStop, uncut_stop, cut_stop}
+use Rattle.pale_starts.specs.Stops.{IsPartStop, uncut_stop, cut_stop}
 use Rattle.pale_modes.specs.declared.status.Status.{Status}
 use Rattle.pale_modes.specs.Texts.{most_bytes}
 use Rattle.pale_modes.proofs.CutLemmas.{one_cut, cut_or_not}
@@ -90,7 +90,7 @@ not-refused triples _ r _ (line, is, asks) (too_much first second more other als
 
 module _ (laws : Laws) (text : List ℕ) (limit : ℕ) (program : TypedProgram) (triples : List Triple) (r : Request)
     (spells : SpellsRequest text program triples r) where
-  not-stopped : (refusal : Refusal) → IsReplayStop text (stop.Refused refusal) → ⊥
+  not-stopped : (refusal : Refusal) → IsPartStop text (stop.Refused refusal) → ⊥
   not-stopped refusal (uncut_stop none is) = cut_or_not text spells.part spells.after spells.cut none
   not-stopped refusal (cut_stop part after again is) =
       let same = one_cut text part spells.part after spells.after again spells.cut in

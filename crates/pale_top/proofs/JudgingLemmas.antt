@@ -12,7 +12,7 @@ use Rattle.whole_program.specs.ProgramTexts.{IsReadAs, IsStopOf}
 use Rattle.pale_parts.specs.Parts.{IsCutAs, HasNoCut}
 use Rattle.pale_parts.specs.declared.request.RequestFault.{RequestFault}
 use Rattle.pale_parts.specs.declared.request.RequestKind.TheVariants as kind
-use Rattle.pale_replay.specs.Replaying.{IsReplayStop, uncut_stop, cut_stop}
+use Rattle.pale_starts.specs.Stops.{IsPartStop, uncut_stop, cut_stop}
 use Rattle.pale_modes.specs.Texts.{most_bytes}
 use Rattle.std.specs.List.{list_all}
 use Rattle.store_core.specs.declared.ids.FieldId.{FieldId}
@@ -203,6 +203,6 @@ module _ (text front : List ℕ) where
       judging.cut front after.now program triples output status short some read judges
 
   pub stop_by_cut : (part : Option (Bor (List ℕ))) → IfSome part (λ after. IsCutAs text front after.now) → IfNone part ((front ≡ text) × HasNoCut text) →
-      (stop : TextStop) → IsStopOf front stop → IsReplayStop text stop
+      (stop : TextStop) → IsStopOf front stop → IsPartStop text stop
   stop_by_cut None some none stop is = uncut_stop none.1 (subst (λ (t : List ℕ). IsStopOf t stop) none.0 is)
   stop_by_cut (Some after) some none stop is = cut_stop front after.now some is

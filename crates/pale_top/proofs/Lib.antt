@@ -5,3 +5,4 @@ mod JudgedLemmas
 mod MeetingLemmas
 mod PromiseLemmas
 mod CompletingLemmas
+mod SafeRunLemmas

@@ -14,7 +14,7 @@ use Rattle.pale_parts.specs.declared.request.Request.TheVariants as request
 use Rattle.pale_parts.specs.declared.request.RequestFault.{RequestFault}
 use Rattle.pale_parts.specs.declared.request.RequestKind.TheVariants.{Missing}
 use Rattle.pale_parts.specs.Requests.{IsRequest, IsRequestFault, request_line}
-use Rattle.pale_replay.specs.Replaying.{IsReplayStop}
+use Rattle.pale_starts.specs.Stops.{IsPartStop}
 use Rattle.pale_modes.specs.declared.status.Status.{Status}
 use Rattle.pale_modes.specs.declared.status.Status.TheVariants.{Good, Bad, Text, Limit}
 use Rattle.pale_modes.specs.Report.{refused_line, too_long_line}
@@ -56,7 +56,7 @@ pub data JudgesPart (limit : ℕ) (program : TypedProgram) (triples : List Tripl
 -- is written for what follows it, which is nothing where there is no line `---`
 pub data Judges (limit : ℕ) (text : List ℕ) : List ℕ → Status → Type 0 where
   too_long : most_bytes < length text → Judges limit text too_long_line Text
-  refused : (refusal : Refusal) → length text ≤ most_bytes → IsReplayStop text (stop.Refused refusal) → Judges limit text (refused_line refusal) Text
+  refused : (refusal : Refusal) → length text ≤ most_bytes → IsPartStop text (stop.Refused refusal) → Judges limit text (refused_line refusal) Text
   uncut : (program : TypedProgram) (triples : List Triple) (output : List ℕ) (status : Status) → length text ≤ most_bytes → HasNoCut text
       → IsReadAs text program triples → JudgesPart limit program triples None output status → Judges limit text output status
   cut : (part after : List ℕ) (program : TypedProgram) (triples : List Triple) (output : List ℕ) (status : Status) → length text ≤ most_bytes

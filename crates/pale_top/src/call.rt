@@ -1,5 +1,5 @@
 //! A call of the program: its words, then its text, then what its mode writes.
-ghost use Rattle.std.specs.Prelude.{◌≡◌, ◌≢◌, ◌≤◌, ◌+◌, ◌⊎◌, length, true, false, Ok, IfSome, map};
+ghost use Rattle.std.specs.Prelude.{◌≡◌, ◌≢◌, ◌≤◌, ◌+◌, ◌⊎◌, ℕ, List, length, true, false, Ok, IfSome, map};
 ghost use Rattle.std.specs.String.{string_bytes};
 ghost use Rattle.pale_io.specs.Faults.{Rose};
 ghost use Rattle.pale_io.specs.Told.{without_first};
@@ -8,6 +8,7 @@ ghost use Rattle.pale_words.specs.declared.words.Settings.{Settings};
 ghost use Rattle.pale_generator.specs.Generated.{program_text};
 ghost use Rattle.whole_program.specs.ProgramTexts.{IsReadAs};
 ghost use Rattle.pale_words.specs.Words.{AsksFor, Gives, IsRefused};
+ghost use Rattle.pale_parts.specs.Parts.{IsCutAs};
 ghost use Rattle.pale_modes.specs.Report.{too_long_line};
 ghost use Rattle.pale_modes.specs.Texts.{most_bytes};
 ghost use Rattle.pale_modes.specs.Written.{Wrote};
@@ -31,9 +32,13 @@ fn reads_text(alloc: Global, words: &Vec<String>) -> Result<bool, AllocError>
     match read_words(alloc, words) {
         Ok(settings) => match settings.mode {
             Mode::Gen => Ok(false),
-            Mode::Check | Mode::Replay | Mode::Format | Mode::Ws2s | Mode::Judge | Mode::Meet => Ok(
-                true,
-            ),
+            Mode::Check
+            | Mode::Replay
+            | Mode::Format
+            | Mode::Ws2s
+            | Mode::Judge
+            | Mode::Meet
+            | Mode::Run => Ok(true),
         },
         Err(WordsStop::Refused) => Ok(false),
         Err(WordsStop::NoMemory) => Err(AllocError),
@@ -57,6 +62,8 @@ fn answer<S: Source, K: Sink>(
     ensures each_answered { IsAnswer result → (settings : _) → Gives (map string_bytes words.now.items) settings →
         IfSome (S.left source.old) (λ text. length text ≤ most_bytes → Completes settings text (K.written sink.old) (K.written sink.new) result) }
     ensures whole_runs { result ≡ Status.Good → AsksFor (map string_bytes words.now.items) Mode.Check → IfSome (S.left source.old) IsSafe }
+    ensures safe_runs { result ≡ Status.Bad → AsksFor (map string_bytes words.now.items) Mode.Run →
+        IfSome (S.left source.old) (λ text. (part after : List ℕ) → IsCutAs text part after → IsSafe part → ⊥) }
     ensures complete { IsAnswer result → (settings : _) → Gives (map string_bytes words.now.items) settings → settings.mode ≡ Mode.Check →
         IfSome (S.left source.old) (λ text. length text ≤ most_bytes → IsWithinPeaks settings.limit text →
         (result ≡ Status.Good) ⊎ (result ≡ Status.Bad)) }
@@ -107,8 +114,11 @@ pub fn pale_main<S: Source, K: Sink>(
         length (program_text settings.seed) ≤ most_bytes → (program : _) (triples : _) → IsReadAs (program_text settings.seed) program triples →
         Wrote (GensEach settings.limit settings.seed program triples) (K.written sink.old) (K.written sink.new) result }
 
-    // Where a check answers Good, no whole run fails; and below the Peaks it answers Good or Bad.
+    // Where a check answers Good, no whole run fails, and so `run` doesn't answer Bad for what begins with that program; and below the
+    // Peaks a check answers Good or Bad.
     ensures whole_runs { result ≡ Status.Good → AsksFor (map string_bytes words.now.items) Mode.Check → IfSome (S.left source.old) IsSafe }
+    ensures safe_runs { result ≡ Status.Bad → AsksFor (map string_bytes words.now.items) Mode.Run →
+        IfSome (S.left source.old) (λ text. (part after : List ℕ) → IsCutAs text part after → IsSafe part → ⊥) }
     ensures complete { IsAnswer result → (settings : _) → Gives (map string_bytes words.now.items) settings → settings.mode ≡ Mode.Check →
         IfSome (S.left source.old) (λ text. length text ≤ most_bytes → IsWithinPeaks settings.limit text →
         (result ≡ Status.Good) ⊎ (result ≡ Status.Bad)) }

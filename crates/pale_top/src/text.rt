@@ -1,10 +1,11 @@
 //! A call on a text that is at hand: its words, and what its mode writes for the text.
-ghost use Rattle.std.specs.Prelude.{◌≡◌, ◌≢◌, ◌≤◌, ◌⊎◌, length, IfOk, OnErr, IsErrOf, map};
+ghost use Rattle.std.specs.Prelude.{◌≡◌, ◌≢◌, ◌≤◌, ◌⊎◌, ℕ, List, length, IfOk, OnErr, IsErrOf, map};
 ghost use Rattle.std.specs.String.{string_bytes};
 ghost use Rattle.pale_io.specs.Faults.{Rose};
 ghost use Rattle.pale_generator.specs.Generated.{program_text};
 ghost use Rattle.whole_program.specs.ProgramTexts.{IsReadAs};
 ghost use Rattle.pale_words.specs.Words.{AsksFor, Gives, IsLimit};
+ghost use Rattle.pale_parts.specs.Parts.{IsCutAs};
 ghost use Rattle.pale_modes.specs.Report.{too_long_line};
 ghost use Rattle.pale_modes.specs.Texts.{most_bytes};
 ghost use Rattle.pale_modes.specs.Written.{Wrote, WroteAtMost};
@@ -19,7 +20,7 @@ use crate::judge::judge_text;
 use crate::meet::meet_text;
 use pale_io::{Sink, WriteStop};
 use pale_modes::{
-    Status, decide_text, ended, format_text, formatting_is_one, replay_text, say,
+    Status, decide_text, ended, format_text, formatting_is_one, replay_text, run_text, say,
     texts_within_their_peaks_are_decided,
 };
 use pale_words::{Mode, Settings, WordsStop, read_words};
@@ -59,6 +60,7 @@ fn answer_text<K: Sink>(
         Mode::Ws2s => decide_text(alloc, settings.limit, text, sink),
         Mode::Judge => judge_text(alloc, settings.limit, text, passes, sink),
         Mode::Meet => meet_text(alloc, settings.limit, text, passes, sink),
+        Mode::Run => run_text(alloc, text, sink),
         Mode::Gen => unreachable!(),
     }
 }
@@ -79,8 +81,13 @@ fn obey<K: Sink>(
 {
     match settings.mode {
         Mode::Gen => gen_text(alloc, settings.limit, settings.seed, passes, sink),
-        Mode::Check | Mode::Replay | Mode::Format | Mode::Ws2s | Mode::Judge | Mode::Meet =>
-            answer_text(alloc, settings, text, passes, sink),
+        Mode::Check
+        | Mode::Replay
+        | Mode::Format
+        | Mode::Ws2s
+        | Mode::Judge
+        | Mode::Meet
+        | Mode::Run => answer_text(alloc, settings, text, passes, sink),
     }
 }
 
@@ -137,6 +144,9 @@ pub fn pale_bytes<K: Sink>(
 
     // Where a check answers Good, no whole run fails; and below the Peaks it answers Good or Bad.
     ensures whole_runs { result ≡ Status.Good → AsksFor (map string_bytes words.now.items) Mode.Check → IsSafe text.now }
+    // So where the program's part is such a text, `run` never answers that the run failed.
+    ensures safe_runs { result ≡ Status.Bad → AsksFor (map string_bytes words.now.items) Mode.Run → (part after : List ℕ) →
+        IsCutAs text.now part after → IsSafe part → ⊥ }
     ensures complete { IsAnswer result → (settings : _) → Gives (map string_bytes words.now.items) settings → settings.mode ≡ Mode.Check →
         length text.now ≤ most_bytes → IsWithinPeaks settings.limit text.now → (result ≡ Status.Good) ⊎ (result ≡ Status.Bad) }
 

@@ -23,6 +23,8 @@ pub enum Mode {
     Judge,
     /// Finds a least store that meets each triple of a program.
     Meet,
+    /// Runs a procedure of a program, with its loops and calls, from a store.
+    Run,
     /// Judges the generator's program of a seed.
     Gen,
 }
@@ -60,7 +62,9 @@ ghost use Rattle.clap.specs.declared.builder.value_parser.ValueParser.TheVariant
 ghost use Rattle.pale_words.specs.Words.{Gives, HasMode, HasNumber, HasSettings, HasValues, number_of, mode_rule, number_rule, IsRefused, IsModeParser};
 ghost use Rattle.pale_words.specs.Words.{mode_name, command_with};
 
-static MODE_NAMES: [&str; 7] = ["check", "replay", "format", "ws2s", "judge", "meet", "gen"];
+static MODE_NAMES: [&str; 8] = [
+    "check", "replay", "format", "ws2s", "judge", "meet", "run", "gen",
+];
 
 impl Mode {
     /// The mode of this name.
@@ -75,6 +79,7 @@ impl Mode {
             "ws2s" => Some(Mode::Ws2s),
             "judge" => Some(Mode::Judge),
             "meet" => Some(Mode::Meet),
+            "run" => Some(Mode::Run),
             "gen" => Some(Mode::Gen),
             _ => None,
         }

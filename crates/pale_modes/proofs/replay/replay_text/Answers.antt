@@ -1,5 +1,5 @@
 use Rattle.std.proofs.Common.{List, ℕ, subst, sym}
-use Rattle.pale_replay.specs.Replaying.{IsReplayStop}
+use Rattle.pale_starts.specs.Stops.{IsPartStop}
 use Rattle.pale_modes.specs.declared.status.Status.{Status}
 use Rattle.pale_modes.specs.Replaying.{Replays, replay, refused, status_of}
 use Rattle.pale_modes.proofs.WrittenLemmas.{refused_begun, refused_whole, said_begun, said_whole}
@@ -26,11 +26,11 @@ returns-in-Ok-clause-err g c =
 pub returns-in-Err-clause-ok : goal.returns-in-Err-clause-ok
 returns-in-Err-clause-ok g c =
     refused_whole c.in-Err.stop (Replays c.args.text.now)
-    (λ refusal is. refused refusal c.requires (subst (IsReplayStop c.args.text.now) is c.in-Err.ensures.stop))
+    (λ refusal is. refused refusal c.requires (subst (IsPartStop c.args.text.now) is c.in-Err.ensures.stop))
     (g.K.Sink.written c.args.sink.now) (g.K.Sink.written c.refuse.new.sink) c.refuse.result c.refuse.ensures.ok
 
 pub returns-in-Err-clause-err : goal.returns-in-Err-clause-err
 returns-in-Err-clause-err g c =
     refused_begun c.in-Err.stop (Replays c.args.text.now)
-    (λ refusal is. refused refusal c.requires (subst (IsReplayStop c.args.text.now) is c.in-Err.ensures.stop))
+    (λ refusal is. refused refusal c.requires (subst (IsPartStop c.args.text.now) is c.in-Err.ensures.stop))
     (g.K.Sink.written c.args.sink.now) (g.K.Sink.written c.refuse.new.sink) c.refuse.result c.refuse.ensures.err

@@ -1,5 +1,6 @@
 use Rattle.pale_text.specs.declared.refusal.TextStop.TheVariants as stop
-use Rattle.pale_replay.proofs.TellingLemmas.{handed_on, stop_of_parts, cut_replay, uncut_replay}
+use Rattle.pale_starts.proofs.StopLemmas.{handed_on, stop_of_parts}
+use Rattle.pale_replay.proofs.TellingLemmas.{cut_replay, uncut_replay}
 use Rattle.pale_replay.proofs.replaying.replay.Goals as goal
 
 pub returns-in_err-whole-clause-stop : goal.returns-in_err-whole-clause-stop

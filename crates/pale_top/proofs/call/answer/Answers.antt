@@ -11,6 +11,7 @@ use Rattle.pale_top.proofs.CallLemmas.{told_answers, told_begins, too_long_outpu
 use Rattle.pale_top.specs.Completing.{Completes}
 use Rattle.pale_top.proofs.CompletingLemmas.{told_completed}
 use Rattle.pale_top.proofs.PromiseLemmas.{told_decided, told_safe, too_long_decided}
+use Rattle.pale_top.proofs.SafeRunLemmas.{told_safe_runs}
 use Rattle.pale_top.proofs.call.answer.Goals as goal
 
 pub returns-in-Ok-clause-answer : goal.returns-in-Ok-clause-answer
@@ -43,6 +44,13 @@ returns-in-Ok-clause-whole_runs g c good asks =
     let text = c.deref.result.now in
     let told = subst (λ (t : List ℕ). IfSome left (λ bytes. t ≡ bytes)) (sym c.deref.ensures.value) c.in-Ok.ensures.whole.whole in
     told_safe left text told (c.pale_bytes.ensures.whole_runs good asks)
+
+pub returns-in-Ok-clause-safe_runs : goal.returns-in-Ok-clause-safe_runs
+returns-in-Ok-clause-safe_runs g c bad asks =
+    let left = g.S.Source.left c.args.source.now in
+    let text = c.deref.result.now in
+    let told = subst (λ (t : List ℕ). IfSome left (λ bytes. t ≡ bytes)) (sym c.deref.ensures.value) c.in-Ok.ensures.whole.whole in
+    told_safe_runs left text told (c.pale_bytes.ensures.safe_runs bad asks)
 
 pub returns-in-Ok-clause-complete : goal.returns-in-Ok-clause-complete
 returns-in-Ok-clause-complete g c is settings gives asks =
@@ -88,6 +96,12 @@ pub returns-in-Err-TooLong-clause-whole_runs : goal.returns-in-Err-TooLong-claus
 returns-in-Err-TooLong-clause-whole_runs g c good asks =
     let bad = line_status (g.K.Sink.written c.args.sink.now) (g.K.Sink.written c.say.new.sink) too_long_line Text Good c.say.result c.ended.result
     c.ended.ensures c.say.ensures.ok (subst IsAnswer (sym good) tt) good in
+    absurd (cc)
+
+pub returns-in-Err-TooLong-clause-safe_runs : goal.returns-in-Err-TooLong-clause-safe_runs
+returns-in-Err-TooLong-clause-safe_runs g c bad asks =
+    let other = line_status (g.K.Sink.written c.args.sink.now) (g.K.Sink.written c.say.new.sink) too_long_line Text Bad c.say.result c.ended.result
+    c.ended.ensures c.say.ensures.ok (subst IsAnswer (sym bad) tt) bad in
     absurd (cc)
 
 pub returns-in-Err-TooLong-clause-each_answered : goal.returns-in-Err-TooLong-clause-each_answered

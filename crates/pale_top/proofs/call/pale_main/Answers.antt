@@ -1,6 +1,6 @@
 use Rattle.std.proofs.Common.{rules, refl, inl, inr, [], map}
 use Rattle.std.specs.String.{string_bytes}
-use Rattle.pale_words.specs.declared.words.Mode.TheVariants.{Check}
+use Rattle.pale_words.specs.declared.words.Mode.TheVariants.{Check, Run}
 use Rattle.pale_top.proofs.CallLemmas.{asks_for_none, asks_for_text, some_text, unread_answers, unread_begins}
 use Rattle.pale_top.proofs.CompletingLemmas.{unread_completed}
 use Rattle.pale_top.proofs.call.pale_main.Goals as goal
@@ -31,6 +31,10 @@ returns-in-Ok-false-clause-each_answered g c is settings gives =
 pub returns-in-Ok-false-clause-whole_runs : goal.returns-in-Ok-false-clause-whole_runs
 returns-in-Ok-false-clause-whole_runs g c good asks =
     absurd (asks_for_none (map string_bytes c.args.words.now.items) (c.reads_text.ensures.unread (search rules)) Check (λ same. cc) asks)
+
+pub returns-in-Ok-false-clause-safe_runs : goal.returns-in-Ok-false-clause-safe_runs
+returns-in-Ok-false-clause-safe_runs g c bad asks =
+    absurd (asks_for_none (map string_bytes c.args.words.now.items) (c.reads_text.ensures.unread (search rules)) Run (λ same. cc) asks)
 
 pub returns-in-Ok-false-clause-complete : goal.returns-in-Ok-false-clause-complete
 returns-in-Ok-false-clause-complete g c is settings gives asks =

@@ -1,5 +1,5 @@
 use Rattle.std.proofs.Common.{subst}
-use Rattle.pale_replay.specs.Replaying.{IsReplayStop}
+use Rattle.pale_starts.specs.Stops.{IsPartStop}
 use Rattle.pale_modes.proofs.WrittenLemmas.{begun-weaker, whole-weaker, refused_begun, refused_whole}
 use Rattle.pale_top.specs.Judging.{Judges, JudgesPart, refused}
 use Rattle.pale_top.proofs.JudgingLemmas.{lines_in, by_cut, stop_by_cut}
@@ -33,7 +33,7 @@ pub returns-in-Err-clause-ok : goal.returns-in-Err-clause-ok
 returns-in-Err-clause-ok g c =
     let text = c.args.text.now in
     refused_whole c.in-Err.stop (Judges c.args.limit text)
-    (λ refusal is. refused refusal c.requires.within (subst (IsReplayStop text) is
+    (λ refusal is. refused refusal c.requires.within (subst (IsPartStop text) is
     (stop_by_cut text c.cut_text.result.0.now c.cut_text.result.1 c.cut_text.ensures.cut c.cut_text.ensures.whole c.in-Err.stop c.in-Err.ensures.stop)))
     (g.K.Sink.written c.args.sink.now) (g.K.Sink.written c.refuse.new.sink) c.refuse.result c.refuse.ensures.ok
 
@@ -41,6 +41,6 @@ pub returns-in-Err-clause-err : goal.returns-in-Err-clause-err
 returns-in-Err-clause-err g c =
     let text = c.args.text.now in
     refused_begun c.in-Err.stop (Judges c.args.limit text)
-    (λ refusal is. refused refusal c.requires.within (subst (IsReplayStop text) is
+    (λ refusal is. refused refusal c.requires.within (subst (IsPartStop text) is
     (stop_by_cut text c.cut_text.result.0.now c.cut_text.result.1 c.cut_text.ensures.cut c.cut_text.ensures.whole c.in-Err.stop c.in-Err.ensures.stop)))
     (g.K.Sink.written c.args.sink.now) (g.K.Sink.written c.refuse.new.sink) c.refuse.result c.refuse.ensures.err

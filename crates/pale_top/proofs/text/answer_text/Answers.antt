@@ -3,9 +3,10 @@ use Rattle.pale_modes.specs.Formatting.{Formats}
 use Rattle.pale_top.specs.Checking.{Checks}
 use Rattle.pale_top.specs.Judging.{Judges}
 use Rattle.pale_top.specs.Meeting.{MeetsText}
-use Rattle.pale_top.specs.Output.{Output, check, replay, format, ws2s, judge, meet}
+use Rattle.pale_top.specs.Output.{Output, check, replay, format, ws2s, judge, meet, run}
 use Rattle.pale_modes.specs.Deciding.{Decides}
 use Rattle.pale_modes.specs.Replaying.{Replays}
+use Rattle.pale_modes.specs.Running.{Runs}
 use Rattle.pale_modes.proofs.WrittenLemmas.{begun-weaker, whole-weaker}
 use Rattle.pale_modes.proofs.WrittenLemmas.{said_begun, said_whole}
 use Rattle.pale_modes.specs.Report.{too_long_line}
@@ -82,3 +83,13 @@ pub returns-in-Meet-clause-err : goal.returns-in-Meet-clause-err
 returns-in-Meet-clause-err g c =
     begun-weaker (MeetsText c.args.settings.limit c.args.text.now) (Output c.args.settings c.args.text.now) (meet c.in-Meet.is)
     (g.K.Sink.written c.args.sink.now) (g.K.Sink.written c.meet_text.new.sink) c.meet_text.result c.meet_text.ensures.err
+
+pub returns-in-Run-clause-ok : goal.returns-in-Run-clause-ok
+returns-in-Run-clause-ok g c =
+    whole-weaker (Runs c.args.text.now) (Output c.args.settings c.args.text.now) (run c.in-Run.is)
+    (g.K.Sink.written c.args.sink.now) (g.K.Sink.written c.run_text.new.sink) c.run_text.result c.run_text.ensures.ok
+
+pub returns-in-Run-clause-err : goal.returns-in-Run-clause-err
+returns-in-Run-clause-err g c =
+    begun-weaker (Runs c.args.text.now) (Output c.args.settings c.args.text.now) (run c.in-Run.is)
+    (g.K.Sink.written c.args.sink.now) (g.K.Sink.written c.run_text.new.sink) c.run_text.result c.run_text.ensures.err

@@ -4,6 +4,7 @@ use Rattle.pale_top.specs.Output.{IsAnswer}
 use Rattle.pale_top.proofs.CallLemmas.{no_read_fault, text_begun, text_wrote, write_failed}
 use Rattle.pale_top.proofs.CompletingLemmas.{completed, counted}
 use Rattle.pale_top.proofs.PromiseLemmas.{decided_call, safe_call}
+use Rattle.pale_top.proofs.SafeRunLemmas.{safe_run_call}
 use Rattle.pale_top.proofs.text.pale_bytes.Goals as goal
 
 pub returns-clause-answer : goal.returns-clause-answer
@@ -58,6 +59,13 @@ returns-clause-whole_runs g c good =
     let wrote = text_wrote words c.args.text.now (g.K.Sink.written c.args.sink.now) (g.K.Sink.written c.answer_words.new.sink)
     c.answer_words.result c.ended.result c.ended.ensures c.answer_words.ensures.ok (subst IsAnswer (sym good) tt) in
     safe_call c.good_reports_have_safe_runs.ensures words c.args.text.now wrote.output c.ended.result wrote.allowed good
+
+pub returns-clause-safe_runs : goal.returns-clause-safe_runs
+returns-clause-safe_runs g c bad asks part after at safe =
+    let words = map string_bytes c.args.words.now.items in
+    let wrote = text_wrote words c.args.text.now (g.K.Sink.written c.args.sink.now) (g.K.Sink.written c.answer_words.new.sink)
+    c.answer_words.result c.ended.result c.ended.ensures c.answer_words.ensures.ok (subst IsAnswer (sym bad) tt) in
+    safe_run_call c.texts_have_one_reading.ensures.one c.args.text.now part after at safe words wrote.output c.ended.result wrote.allowed bad asks
 
 pub returns-clause-complete : goal.returns-clause-complete
 returns-clause-complete g c is =

@@ -18,10 +18,10 @@ use Rattle.store_text.specs.declared.read.spelled.Given.{Given}
 use Rattle.store_text.specs.declared.read.spelled.CellLine.{CellLine}
 use Rattle.store_text.specs.declared.read.spelled.Line.{Line}
 use Rattle.store_text.specs.declared.read.spelled.Line.TheVariants as line
-use Rattle.store_text.specs.Lines.{lines_of, parts_of}
+use Rattle.store_text.specs.Lines.{parts_of}
 use Rattle.store_text.specs.Spelling.{all_of, number_of, number_after, type_of, field_of, given_of, var_line, cell_in, cell_line, line_in, line_of}
 use Rattle.store_text.specs.Saying.{Said, nothing_said, say_var, say_cell, cell_said, value_for, var_holds, is_said}
-use Rattle.store_text.specs.Reading.{reading, read_text, read_lines, read_end, after_end, say_line, checked, store_said, next_after, is_misnamed}
+use Rattle.store_text.specs.Reading.{read_text, read_lines, read_end, after_end, say_line, checked, store_said, next_after, is_misnamed}
 use Rattle.store_text.proofs.ReadValues.{cases, result_cases, bool_cases}
 
 -- ---- lists
@@ -209,13 +209,11 @@ lines_small types vars s (line ∷ lines) n said small e = elim (bool_cases (byt
   ]
 ]
 
-pub read_small : (types : List TypeEntry) (vars : List VarEntry) (text : List ℕ) (s : StoreMap) → reading types vars text ≡ Ok s → s.next ≤ 1000001
-unfolding reading read_text
-read_small types vars text s e = by (lines_of text) e
-  where
-    by : (lines : List (List ℕ)) → read_text types vars lines ≡ Ok s → s.next ≤ 1000001
-    by [] e = absurd (cc)
-    by (line ∷ lines) e = elim (bool_cases (bytes_eq line (codes "store"))) [
-      | inl other ↦ absurd (let e1 = rw other at e in cc)
-      | inr first ↦ lines_small types vars s lines 2 (nothing_said vars) (nothing_small vars) (rw first at e)
-    ]
+pub read_small : (types : List TypeEntry) (vars : List VarEntry) (lines : List (List ℕ)) (s : StoreMap) → read_text types vars lines ≡ Ok s →
+    s.next ≤ 1000001
+unfolding read_text
+read_small types vars [] s e = absurd (cc)
+read_small types vars (line ∷ lines) s e = elim (bool_cases (bytes_eq line (codes "store"))) [
+  | inl other ↦ absurd (let e1 = rw other at e in cc)
+  | inr first ↦ lines_small types vars s lines 2 (nothing_said vars) (nothing_small vars) (rw first at e)
+]

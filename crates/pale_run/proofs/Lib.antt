@@ -1,0 +1,4 @@
+pub mod NamingLemmas
+pub mod EntryLemmas
+pub mod ExitLemmas
+pub mod TellingLemmas

@@ -1,0 +1,34 @@
+use Rattle.pale_text.specs.declared.refusal.TextStop.TheVariants as stop
+use Rattle.pale_starts.proofs.StopLemmas.{handed_on, stop_of_parts}
+use Rattle.pale_run.proofs.TellingLemmas.{cut_run, uncut_run}
+use Rattle.pale_run.proofs.running.run.Goals as goal
+
+pub returns-in_err-whole-clause-stop : goal.returns-in_err-whole-clause-stop
+returns-in_err-whole-clause-stop c =
+    let text = c.args.text.now in
+    let parts = c.cut_text.result in
+    let e = c.in_err-whole.field-0.0 in
+    handed_on text c.from_residual.result e c.from_residual.ensures.1
+    (stop_of_parts text parts.0.now parts.1 c.cut_text.ensures.cut c.cut_text.ensures.whole e c.in_err-whole.ensures.stop)
+
+pub returns-in_err-run_part-in-Some-clause-stop : goal.returns-in_err-run_part-in-Some-clause-stop
+returns-in_err-run_part-in-Some-clause-stop c =
+    let text = c.args.text.now in
+    let parts = c.cut_text.result in
+    handed_on text c.from_residual-in_err-run_part-in-Some.result stop.NoMemory c.from_residual-in_err-run_part-in-Some.ensures.1
+    (stop_of_parts text parts.0.now parts.1 c.cut_text.ensures.cut c.cut_text.ensures.whole stop.NoMemory tt)
+
+pub returns-in-Some-clause-run : goal.returns-in-Some-clause-run
+returns-in-Some-clause-run c =
+    let parts = c.cut_text.result in
+    let whole = c.in_ok-whole.whole in
+    let said = c.in_ok-run_part-in-Some.field-0 in
+    cut_run c.args.text.now parts.0.now parts.1 c.in-Some.part c.in-Some.is c.cut_text.ensures.cut whole.typed whole.triples
+    c.in_ok-whole.ensures.program said.answer said.text c.in_ok-run_part-in-Some.ensures
+
+pub returns-clause-run : goal.returns-clause-run
+returns-clause-run c =
+    let parts = c.cut_text.result in
+    let whole = c.in_ok-whole.whole in
+    uncut_run c.args.text.now parts.0.now parts.1 c.in-None.is c.cut_text.ensures.whole whole.typed whole.triples
+    c.in_ok-whole.ensures.program c.in_ok-store_refused-in-None.field-0 c.in_ok-store_refused-in-None.ensures
