@@ -1,0 +1,28 @@
+//! A step that fails.
+
+use store_core::Store;
+use store_exec::{Cause, Fault};
+
+/// Why a step fails and at which line, and the store where the run stands: the one before an act or a condition, and the one that
+/// arrives at a cut.
+#[derive(Drop)]
+pub(crate) struct Halted {
+    pub cause: Cause,
+    pub line: u32,
+    pub at: Store,
+}
+
+impl Halted {
+    ghost use Rattle.std.specs.Prelude.{◌≡◌};
+
+    /// This fault, at this store.
+    pub(crate) fn of(fault: Fault, at: Store) -> Halted
+        ensures { result ≡ record { cause = fault.cause; line = fault.line; at = at } }
+    {
+        Halted {
+            cause: fault.cause,
+            line: fault.line,
+            at,
+        }
+    }
+}
