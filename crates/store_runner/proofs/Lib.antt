@@ -1,4 +1,7 @@
 mod TruthLemmas
 mod PlaceLemmas
-mod AnswerLemmas
+mod BelowLemmas
 mod StandingLemmas
+mod RecordingLemmas
+mod CodeRecordings
+mod ShowingLemmas

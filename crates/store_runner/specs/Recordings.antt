@@ -55,19 +55,22 @@ Chooses s line c taken other before now (Ok (Ok chosen)) = (truth : Bool) × (tr
 Chooses s line c taken other before now (Ok (Err fault)) = (truth_of s c ≡ Err fault.cause) × (fault.line ≡ line) × (now ≡ before)
 Chooses s line c taken other before now (Err e) = Unit {0}
 
--- something was recorded, and where items are left shows the rest of all of them
-pub record GoesOn (types : List TypeEntry) (items : List Item) (s : StoreMap) (before : Option (List Event)) (rest : List Item) (t : StoreMap)
-    (now : Option (List Event)) : Type 0 where
+-- something was recorded, and where the rest shows what it does, the whole shows that and this before it
+pub record GoesOn (X : Type 0) (Whole Rest : Tracing X) (s : StoreMap) (before : Option (List Event)) (t : StoreMap) (now : Option (List Event)) :
+    Type 0 where
   pub shown : List Event
   pub kept : now ≡ recorded before shown
-  pub goes : (later : List Event) (u : StoreMap) (end : Result (Unit {0}) Fault) → TracesItems types rest t later u end →
-      TracesItems types items s (shown ++ later) u end
+  pub goes : (later : List Event) (u : StoreMap) (end : Result X Fault) → Rest t later u end → Whole s (shown ++ later) u end
+
+-- the same of items
+abbrev pub ItemsGoOn : List TypeEntry → List Item → StoreMap → Option (List Event) → List Item → StoreMap → Option (List Event) → Type 0
+ItemsGoOn types items s before rest t now = GoesOn (Unit {0}) (TracesItems types items) (TracesItems types rest) s before t now
 
 -- other items are left, which can be run, and less is to be done; or a fault stopped all
 abbrev pub Enters : {E : Type 0} → List TypeEntry → List Item → StoreMap → Option (List Event) → ℕ → StoreMap → List (Bor (List Item)) →
     Option (List Event) → Result (Result (Bor (List Item)) Fault) E → Type 0
 Enters types items s before weight t waiting now (Ok (Ok next)) =
-    GoesOn types items s before (left_over next.now waiting) t now × CanRun types t (left_over next.now waiting)
+    ItemsGoOn types items s before (left_over next.now waiting) t now × CanRun types t (left_over next.now waiting)
     × (weight_left next.now waiting < weight)
 Enters types items s before weight t waiting now (Ok (Err fault)) =
     (shown : List Event) × TracesItems types items s shown t (Err fault) × (now ≡ recorded before shown)

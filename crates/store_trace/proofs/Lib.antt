@@ -5,3 +5,4 @@ pub mod RunsTraced
 pub mod OneTrace
 pub mod KeptStores
 pub mod Triples
+pub mod RecordedLemmas

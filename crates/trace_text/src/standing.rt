@@ -1,8 +1,8 @@
 //! Where a run stands.
 
-ghost use Rattle.std.specs.Prelude.{◌≡◌, ◌++◌, OnOk, IsSome, slice_get};
+ghost use Rattle.std.specs.Prelude.{◌≡◌, ◌++◌, OnOk, IsSomeAnd, slice_get};
 ghost use Rattle.store_core.specs.Stores.{Fits};
-ghost use Rattle.trace_text.specs.TraceLines.{vars_of, stand_text};
+ghost use Rattle.trace_text.specs.TraceLines.{stand_text};
 
 use pale_typed::Typed;
 use std::alloc::{AllocError, Global};
@@ -22,8 +22,7 @@ pub fn push_stand(
     at: &Store,
     text: &mut Vec<u8>,
 ) -> Result<(), AllocError>
-    requires proc { IsSome (slice_get program.now.procs proc) }
-    requires fits { Fits program.now.types (vars_of program.now proc) at.now }
+    requires { IsSomeAnd (slice_get program.now.procs proc) (λ e. Fits program.now.types e.vars at.now) }
     ensures { OnOk result (text.new.items ≡ text.old.items ++ stand_text program.now proc at.now) }
 {
     let Some(vars) = program.vars(proc) else {

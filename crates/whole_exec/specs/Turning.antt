@@ -27,12 +27,12 @@ use Rattle.whole_exec.specs.declared.turning.Turned.{Turned}
 use Rattle.whole_exec.specs.declared.turning.Turned.TheVariants as turned
 use Rattle.whole_exec.specs.declared.halted.Halted.{Halted}
 use Rattle.whole_exec.specs.declared.traced.RunEnd.{RunEnd}
+use Rattle.whole_exec.specs.declared.traced.RunEnd.TheVariants as end
 use Rattle.whole_trace.specs.Shown.{state_shows}
-use Rattle.whole_trace.specs.Stopping.{FormStops}
-use Rattle.whole_trace.specs.Traces.{Leads, Traces, stand_at, calls_of}
+use Rattle.whole_trace.specs.Stopping.{FormStops, StopsAt}
+use Rattle.whole_trace.specs.Traces.{Leads, calls_of}
 use Rattle.store_trace.specs.declared.event.Event.{Event}
 use Rattle.store_trace.specs.Recording.{recorded}
-use Rattle.whole_exec.specs.Answers.{answer_with}
 use Rattle.whole_exec.specs.Standings.{stmts_of, left_of, entry_of, state_of}
 
 -- ---- the next statement
@@ -127,9 +127,11 @@ abbrev pub ShowsAs : Option (List Event) → Option (List Event) → List Event 
 ShowsAs before now shown (Ok after) = now ≡ recorded before shown
 ShowsAs before now shown (Err halted) = now ≡ before
 
--- the run has this end here, at this store, and nothing more is shown
+-- the run has this end here, at this store: the next step fails there, or the first procedure has exited
 abbrev pub EndsAs : TypedProgram → State → RunEnd → StoreMap → Type 0
-EndsAs program before end at = (first n : ℕ) → Traces program first (suc n) before [] (stand_at first before at) (answer_with at end)
+EndsAs program before end.Running at = ⊥
+EndsAs program before (end.Fail why line) at = Leads program before (fails why line) × StopsAt program before at
+EndsAs program before end.Exit at = before ≡ exited at []
 
 -- a step leads to the next state, and what it shows is recorded; or the run ends here
 abbrev pub TurnsAs : TypedProgram → State → List Waiting → Option (List Event) → Option (List Event) → Turned → Type 0

@@ -22,4 +22,4 @@ mod turning;
 
 pub use answer::Answer;
 pub use running::{run_procedure, trace_procedure};
-pub use traced::{RunEnd, TracedRun};
+pub use traced::{RunEnd, RunTrace};

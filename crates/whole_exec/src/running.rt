@@ -1,10 +1,12 @@
 //! Whole runs.
 
-ghost use Rattle.std.specs.Prelude.{◌≡◌, IfOk, [], List};
+ghost use Rattle.std.specs.Prelude.{◌≡◌, IfOk, [], List, IsSomeAnd, slice_get};
+ghost use Rattle.store_core.specs.Stores.{Fits};
 ghost use Rattle.pale_typed.specs.Fitting.{ProgramFits};
 ghost use Rattle.pale_typed.specs.TypedPrograms.{TypedProgram};
 ghost use Rattle.store_trace.specs.declared.event.Event.{Event};
 ghost use Rattle.store_trace.specs.Recording.{recorded};
+ghost use Rattle.whole_run.specs.States.{exited};
 ghost use Rattle.whole_run.specs.Runs.{WholeRun};
 ghost use Rattle.whole_trace.specs.Traces.{Traces, TracedRun, proc_at};
 ghost use Rattle.whole_exec.specs.Answers.{answer_of, answer_with, stand_of};
@@ -14,7 +16,7 @@ ghost use Rattle.whole_exec.specs.Standings.{all_waiting, state_of};
 use crate::activation::{At, Suspended};
 use crate::answer::Answer;
 use crate::calling::entered;
-use crate::traced::{RunEnd, TracedRun};
+use crate::traced::{RunEnd, RunTrace};
 use crate::turning::{Turned, turn};
 use claim_laws::claims_with_actuals_put_in_fit;
 use pale_typed::Typed;
@@ -45,16 +47,12 @@ fn proc_at(first: u32, waiting: Stack<Suspended<'_>>) -> u32
     }
 }
 
-/// Where a run stands that has no step left.
-fn rest_at(first: u32, at: At<'_>, waiting: Stack<Suspended<'_>>) -> Stood
-    ensures { (program : TypedProgram) → Traces program first 0 (state_of at.entry (all_waiting waiting.entry)) [] (stand_of result.proc result.at)
+/// Where a run stands behind the exit of a procedure, which is its end where no call waits.
+fn exited_at(first: u32, at: Store, waiting: Stack<Suspended<'_>>) -> Stood
+    ensures { (program : TypedProgram) → Traces program first 0 (exited at (all_waiting waiting.entry)) [] (stand_of result.proc result.at)
         (answer_with result.at result.end) }
 {
     let mut waiting = waiting;
-    let (at, exited) = match at {
-        At::Running(_, store) => (store, false),
-        At::Exited(store) => (store, true),
-    };
     match waiting.pop() {
         Some(suspended) => Stood {
             proc: suspended.call.callee,
@@ -64,8 +62,23 @@ fn rest_at(first: u32, at: At<'_>, waiting: Stack<Suspended<'_>>) -> Stood
         None => Stood {
             proc: first,
             at,
-            end: if exited { RunEnd::Exit } else { RunEnd::Running },
+            end: RunEnd::Exit,
         },
+    }
+}
+
+/// Where a run stands that has no step left.
+fn rest_at(first: u32, at: At<'_>, waiting: Stack<Suspended<'_>>) -> Stood
+    ensures { (program : TypedProgram) → Traces program first 0 (state_of at.entry (all_waiting waiting.entry)) [] (stand_of result.proc result.at)
+        (answer_with result.at result.end) }
+{
+    match at {
+        At::Running(_, store) => Stood {
+            proc: proc_at(first, waiting),
+            at: store,
+            end: RunEnd::Running,
+        },
+        At::Exited(store) => exited_at(first, store, waiting),
     }
 }
 
@@ -80,8 +93,9 @@ fn go(
 ) -> Result<Stood, AllocError>
     requires program { ProgramFits program.now }
     requires start { CanStart program.now number store steps }
-    ensures { IfOk result (λ stood. (shown : List Event) × TracedRun program.now number store steps shown (stand_of stood.proc stood.at)
+    ensures traced { IfOk result (λ stood. (shown : List Event) × TracedRun program.now number store steps shown (stand_of stood.proc stood.at)
         (answer_with stood.at stood.end) × (recorder.new ≡ recorded recorder.old shown)) }
+    ensures fits { IfOk result (λ stood. IsSomeAnd (slice_get program.now.procs stood.proc) (λ e. Fits program.now.types e.vars stood.at)) }
 {
     claims_with_actuals_put_in_fit();
     handed_stores_meet_the_entry();
@@ -135,24 +149,26 @@ pub fn run_procedure(
 
 /// The same, with what the run shows: each step that was done, in order, and where it stands when it has its answer. Where it fails at
 /// an act or a condition that is the store before it, and at a cut the one that arrives there; while a callee runs it is the callee's.
-/// The settings to null or false before a call and at an exit take no step and show nothing.
+/// The settings to null or false before a call and at an exit take no step and show nothing. The store fits the variables of that
+/// procedure.
 pub fn trace_procedure(
     alloc: Global,
     program: &Typed,
     number: u32,
     store: Store,
     steps: u32,
-) -> Result<TracedRun, AllocError>
+) -> Result<RunTrace, AllocError>
     requires program { ProgramFits program.now }
     requires start { CanStart program.now number store steps }
-    ensures { IfOk result (λ run. TracedRun program.now number store steps run.events (stand_of run.proc run.at) (answer_with run.at run.end)) }
+    ensures traced { IfOk result (λ run. TracedRun program.now number store steps run.events (stand_of run.proc run.at) (answer_with run.at run.end)) }
+    ensures fits { IfOk result (λ run. IsSomeAnd (slice_get program.now.procs run.proc) (λ e. Fits program.now.types e.vars run.at)) }
 {
     let mut recorder = Recorder::on(alloc);
     let stood = go(alloc, program, number, store, steps, &mut recorder)?;
     let Stood { proc, at, end } = stood;
     let mut at = at;
     at.settle();
-    Ok(TracedRun {
+    Ok(RunTrace {
         events: recorder.into_events(),
         proc,
         at,

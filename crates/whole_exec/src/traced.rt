@@ -17,7 +17,7 @@ pub enum RunEnd {
 
 /// What a run showed, and where it stands.
 #[derive(Drop)]
-pub struct TracedRun {
+pub struct RunTrace {
     /// What it showed, in order.
     pub events: EventList,
     /// The number of the procedure whose variables the store has: the one whose statement is next, or that fails or exits.
