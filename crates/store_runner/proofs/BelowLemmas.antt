@@ -1,15 +1,16 @@
 -- What is read in a fresh store names cells below the next number, which a new cell leaves as they are.
-use Rattle.std.proofs.Common.{◌≡◌, ◌<◌, ℕ, Bool, true, false, cond, List, [], ◌∷◌, Option, Some, None, IfSome, is_some, slice_get, unwrap_or}
+use Rattle.std.proofs.Common.{◌≡◌, ◌<◌, ℕ, Bool, true, false, cond, List, [], ◌∷◌, Option, Some, None, IfSome, IsSomeAnd, is_some, slice_get, unwrap_or}
 use Rattle.std.proofs.Common.{Result, Ok, Err, refl, sym, ap, ◌∙◌, subst, arith}
 use Rattle.std.specs.Option.{option_and_then, ok_or}
 use Rattle.store_core.specs.declared.ids.FieldId.{FieldId}
 use Rattle.store_core.specs.declared.ids.VarId.{VarId}
 use Rattle.store_core.specs.declared.ids.CellId.{CellId}
 use Rattle.store_core.specs.declared.ids.VariantId.{VariantId}
+use Rattle.store_core.specs.declared.value.Class.TheVariants.{Reference}
 use Rattle.store_core.specs.declared.value.Value.{Value}
 use Rattle.store_core.specs.declared.value.Value.TheVariants as value
 use Rattle.store_core.specs.Tables.{TypeEntry}
-use Rattle.store_core.specs.Stores.{StoreMap, CellEntry, cell_of, field_of, field_value, var_value, IsFresh, NamesBelow, put_cell, set_field}
+use Rattle.store_core.specs.Stores.{StoreMap, CellEntry, class_of, cell_of, field_of, field_value, var_value, IsFresh, NamesBelow, put_cell, set_field}
 use Rattle.store_core.proofs.Bodies.{AllByRecursion-at}
 use Rattle.store_core.proofs.FittingLemmas.{IfSome-at, same_type}
 use Rattle.store_laws.specs.Changed.{next_cell}
@@ -53,13 +54,15 @@ module _ (s : StoreMap) (fresh : IsFresh s) where
       by (Ok c) g = at_cell c (field_value s c f) refl g
       by (Err why) g = err-ok why g
 
+  below-after : (f : FieldId) (fields : List FieldId) (x y : Value) → ((z : Value) → read s x f ≡ Ok z → read_along s z fields ≡ Ok y → NamesBelow s.next y) →
+      (r : Result Value Cause) → read s x f ≡ r → and_then (λ z. read_along s z fields) r ≡ Ok y → NamesBelow s.next y
+  below-after f fields x y next (Ok z) is rest = next z is rest
+  below-after f fields x y next (Err why) is rest = err-ok why rest
+
   along-below : (fields : List FieldId) (x y : Value) → NamesBelow s.next x → read_along s x fields ≡ Ok y → NamesBelow s.next y
   along-below [] x y h g = subst (NamesBelow s.next) (ok-one x y g) h
-  along-below (f ∷ fields) x y h g = by (read s x f) refl g
-    where
-      by : (r : Result Value Cause) → read s x f ≡ r → and_then (λ z. read_along s z fields) r ≡ Ok y → NamesBelow s.next y
-      by (Ok z) is rest = along-below fields z y (read-below x z f is) rest
-      by (Err why) is rest = err-ok why rest
+  along-below (f ∷ fields) x y h g =
+      below-after f fields x y (λ z is rest. along-below fields z y (read-below x z f is) rest) (read s x f) refl g
 
   -- the cell to which fields lead from a variable
   pub cell-below : (v : VarId) (fields : List FieldId) (through : Option CellId) →
@@ -129,3 +132,35 @@ written-cell s (Some d) f c e = by (is_some (cell_of s d)) e
         (Some d ≡ Some c) × (is_some (field_value s c f) ≡ true)
     by true g = at (is_some (field_value s d f)) refl g
     by false g = err-ok cause.Dangling g
+
+pub written-err : (s : StoreMap) (through : Option CellId) (f : FieldId) (y : Value) (why : Cause) → cell_written s through f ≡ Err why →
+    written s (value.Cell through) f y ≡ Err why
+written-err s through f y why e = written-by s through f y ∙ ap (λ (r : Result CellId Cause). made_of (λ c. set_field s c f y) r) e
+
+-- ---- a new cell that is written
+
+module _ (types : List TypeEntry) (s : StoreMap) (v : VariantId) (through : Option CellId) (f : FieldId) (c : CellId)
+    (below : IfSome through (λ d. d.0 < s.next)) (found : cell_written s through f ≡ Ok c) where
+  below-it : c.0 < s.next
+  below-it = subst (λ (o : Option CellId). IfSome o (λ d. d.0 < s.next)) (written-cell s through f c found).0 below
+
+  pub new-fits : IfSome through (λ d. IfSome (field_value s d f) (λ old. class_of old ≡ Reference)) → (t : StoreMap) → t ≡ put_cell s types v →
+      IsSomeAnd (field_value t c f) (λ old. Reference ≡ class_of old)
+  new-fits class t is =
+      let it = written-cell s through f c found in
+      subst (λ (o : Option Value). IsSomeAnd o (λ old. Reference ≡ class_of old))
+      (sym (ap (λ (u : StoreMap). field_value u c f) is ∙ kept-field types s v c f below-it))
+      (by (field_value s c f) it.1 (subst (λ (o : Option CellId). IfSome o (λ d. IfSome (field_value s d f) (λ old. class_of old ≡ Reference))) it.0 class))
+    where
+      by : (o : Option Value) → is_some o ≡ true → IfSome o (λ old. class_of old ≡ Reference) → IsSomeAnd o (λ old. Reference ≡ class_of old)
+      by None e h = absurd cc
+      by (Some old) e h = sym h
+
+  pub new-written : (made : CellId) (t u : StoreMap) → t ≡ put_cell s types v → made.0 ≡ s.next → u ≡ set_field t c f (value.Cell (Some made)) →
+      written (put_cell s types v) (value.Cell through) f (value.Cell (Some (record { 0 = s.next }))) ≡ Ok u
+  new-written made t u is number put =
+      written-by (put_cell s types v) through f (value.Cell (Some (record { 0 = s.next })))
+      ∙ ap (λ (r : Result CellId Cause). made_of (λ d. set_field (put_cell s types v) d f (value.Cell (Some (record { 0 = s.next })))) r)
+      (kept-written types s v through f below ∙ found)
+      ∙ sym (ap (λ (w : StoreMap). Ok w) (put ∙ ap (λ (w : StoreMap). set_field w c f (value.Cell (Some made))) is
+      ∙ ap (λ (n : ℕ). set_field (put_cell s types v) c f (value.Cell (Some (record { 0 = n })))) number))

@@ -5,6 +5,7 @@ use Rattle.store_core.specs.Tables.{TypeEntry}
 use Rattle.store_core.specs.Stores.{StoreMap}
 use Rattle.store_logic.specs.declared.cond.Cond.{Cond}
 use Rattle.store_exec.specs.declared.fault.Fault.{Fault}
+use Rattle.store_exec.specs.declared.code.Item.{Item}
 use Rattle.store_exec.specs.declared.code.Code.{Code}
 use Rattle.store_exec.specs.declared.code.Tail.TheVariants as tail
 use Rattle.store_exec.specs.Steps.{truth_of}
@@ -13,8 +14,23 @@ use Rattle.store_trace.specs.declared.event.Event.TheVariants as event
 use Rattle.store_trace.specs.Recording.{recorded}
 use Rattle.store_trace.specs.Tracing.{TracesItems, TracesCode}
 use Rattle.store_trace.proofs.CodeTraces.{items-cut, branch-true, branch-false, branch-stop}
-use Rattle.store_runner.specs.Recordings.{GoesOn}
+use Rattle.store_runner.specs.Recordings.{Records, GoesOn}
 use Rattle.store_trace.proofs.RecordedLemmas.{recorded-then}
+
+-- what is said of items, lent as a slice
+pub items-ended : {E : Type 0} (types : List TypeEntry) (xs ys : List Item) (s t : StoreMap) (before now : Option (List Event))
+    (r : Result (Result (Unit {0}) Fault) E) → ys ≡ xs → Records (TracesItems types ys) s t before now r → r ≡ Ok (Ok tt) →
+    (shown : List Event) × TracesItems types xs s shown t (Ok tt) × (now ≡ recorded before shown)
+items-ended types xs ys s t before now r same h is =
+    subst (λ (zs : List Item). (shown : List Event) × TracesItems types zs s shown t (Ok tt) × (now ≡ recorded before shown)) same
+    (subst (Records (TracesItems types ys) s t before now) is h)
+
+pub items-stopped : {E : Type 0} (types : List TypeEntry) (xs ys : List Item) (s t : StoreMap) (before now : Option (List Event))
+    (r : Result (Result (Unit {0}) Fault) E) (fault : Fault) → ys ≡ xs → Records (TracesItems types ys) s t before now r → r ≡ Ok (Err fault) →
+    (shown : List Event) × TracesItems types xs s shown t (Err fault) × (now ≡ recorded before shown)
+items-stopped types xs ys s t before now r fault same h is =
+    subst (λ (zs : List Item). (shown : List Event) × TracesItems types zs s shown t (Err fault) × (now ≡ recorded before shown)) same
+    (subst (Records (TracesItems types ys) s t before now) is h)
 
 -- the items of a code ended, and what they showed was recorded
 module _ (types : List TypeEntry) (c : Code) (s u : StoreMap) (before mid : Option (List Event)) (first : List Event)

@@ -5,3 +5,5 @@ mod StandingLemmas
 mod RecordingLemmas
 mod CodeRecordings
 mod ShowingLemmas
+mod FieldLemmas
+mod TripleLemmas

@@ -1,5 +1,5 @@
 -- What is recorded, one thing after another.
-use Rattle.std.proofs.Common.{◌≡◌, ◌+◌, ◌<◌, ◌≤◌, ℕ, Bool, true, false, List, [], ◌∷◌, ◌++◌, map, flat_map, Option, Some, None, is_some, if◌then◌else◌}
+use Rattle.std.proofs.Common.{◌≡◌, ◌+◌, ◌<◌, ◌≤◌, ℕ, Bool, true, false, List, [], ◌∷◌, ◌++◌, length, map, flat_map, Option, Some, None, is_some, if◌then◌else◌}
 use Rattle.std.proofs.Common.{Result, Ok, Err, refl, sym, ap, ap₂, ◌∙◌, subst, arith}
 use Rattle.std.specs.Borrow.{Bor}
 use Rattle.std.proofs.lemmas.List.{append_assoc}
@@ -48,6 +48,23 @@ goes-end Whole Rest s t u before here now later end one h is = (
   one.goes later u end h,
   is ∙ ap (λ (o : Option (List Event)). recorded o later) one.kept ∙ recorded-then before one.shown later,
 )
+
+no-items : (rest : List Item) → length rest ≡ 0 → rest ≡ []
+no-items [] none = refl
+no-items (i ∷ rest) none = absurd (omega (arith, none))
+
+-- where nothing is left all is done
+pub items-done : (types : List TypeEntry) (items rest : List Item) (waiting : List (Bor (List Item))) (s t : StoreMap) (before now : Option (List Event)) →
+    ItemsGoOn types items s before (left_over rest waiting) t now → length rest ≡ 0 → waiting ≡ [] →
+    (shown : List Event) × TracesItems types items s shown t (Ok tt) × (now ≡ recorded before shown)
+items-done types items rest waiting s t before now one none no_more =
+    let left : left_over rest waiting ≡ [] = ap₂ (λ (xs : List Item) (ws : List (Bor (List Item))). left_over xs ws) (no-items rest none) no_more in
+    goes-end (TracesItems types items) (TracesItems types []) s t t before now now [] (Ok tt)
+    (subst (λ (xs : List Item). ItemsGoOn types items s before xs t now) left one) (refl, refl, refl) (sym (recorded-none now))
+
+-- a recorder that is asked and is off
+pub off-by : (is_on : Bool) (kept : Option (List Event)) → is_on ≡ is_some kept → is_on ≡ false → is_some kept ≡ false
+off-by is_on kept told off = sym told ∙ off
 
 -- ---- acts
 

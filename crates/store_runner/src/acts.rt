@@ -33,6 +33,7 @@ fn evaluate(
     requires nothing { nothing.now ≡ null }
     requires known { IsKnownRhs types.now store.old rhs.now }
     ensures told { IsToldBy (λ x. (store.new, x)) (steps.evaluated types.now store.old rhs.now) result }
+    ensures same { MakesNothing rhs.now → store.new ≡ store.old }
     ensures kept { IsKept store.old store.new result }
 {
     match rhs {
@@ -68,9 +69,13 @@ fn write(
     ensures leads { Leads store.new (steps.written store.old (value.Cell through) field stored) result }
     ensures kept { IsKept store.old store.new result }
 {
-    let cell = written_cell(store, through, field)?;
-    store.set_field(cell, field, stored);
-    Ok(())
+    match written_cell(store, through, field) {
+        Ok(cell) => {
+            store.set_field(cell, field, stored);
+            Ok(())
+        }
+        Err(cause) => Err(Halt::Fails(cause)),
+    }
 }
 
 /// Makes a cell and stores it in a field of what is written through. Where that can't be done no cell is made.
@@ -88,10 +93,14 @@ fn write_new(
         (value.Cell (Some (record { 0 = store.old.next })))) result }
     ensures kept { IsKept store.old store.new result }
 {
-    let cell = written_cell(store, through, field)?;
-    let made = store.put_cell(types, variant)?;
-    store.set_field(cell, field, Value::Cell(Some(made)));
-    Ok(())
+    match written_cell(store, through, field) {
+        Ok(cell) => {
+            let made = store.put_cell(types, variant)?;
+            store.set_field(cell, field, Value::Cell(Some(made)));
+            Ok(())
+        }
+        Err(cause) => Err(Halt::Fails(cause)),
+    }
 }
 
 /// Assigns what is no new cell to a field of what is written through.
