@@ -1,7 +1,6 @@
 //! Names, places and values as a trace writes them.
 
 ghost use Rattle.std.specs.Prelude.{◌≡◌, ◌++◌, OnOk, codes};
-ghost use Rattle.std.specs.Fmt.{decimal};
 ghost use Rattle.std.specs.List.{join_by};
 ghost use Rattle.store_text.specs.StoreText.{cell_text, value_text, variant_text};
 ghost use Rattle.trace_text.specs.TraceLines.{vars_of, name_of, truth_text, var_name, fields_text, path_text};

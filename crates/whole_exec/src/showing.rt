@@ -76,7 +76,7 @@ pub(crate) fn shown_exit(
 }
 
 /// Records what a step shows that doesn't fail.
-pub(crate) fn record<'a>(
+pub(crate) fn note_shown<'a>(
     end: Result<At<'a>, Halted>,
     shown: EventList,
     recorder: &mut Recorder,
@@ -94,7 +94,7 @@ pub(crate) fn record<'a>(
 }
 
 /// Records a return.
-pub(crate) fn record_return(alloc: Global, recorder: &mut Recorder) -> Result<(), AllocError>
+pub(crate) fn note_return(alloc: Global, recorder: &mut Recorder) -> Result<(), AllocError>
     ensures { OnOk result (recorder.new ≡ recorded recorder.old (event.Return ∷ [])) }
 {
     if !recorder.is_on() {

@@ -21,7 +21,7 @@ use crate::halted::Halted;
 use crate::pieces::{Loop, Next, Piece, next_statement};
 use crate::plain::run_act;
 use crate::returning::give_back;
-use crate::showing::{record, record_return, shown_exit, shown_next};
+use crate::showing::{note_return, note_shown, shown_exit, shown_next};
 use crate::traced::RunEnd;
 use hoare_split::{Caller, Pick, plain_cut};
 use pale_text::Pos;
@@ -269,12 +269,12 @@ fn take<'a>(
         Some(found) => {
             let shown = shown_next(alloc, program.types(), found, &store, recorder)?;
             let end = take_next(alloc, program, activation, store, found, waiting)?;
-            record(end, shown, recorder)
+            note_shown(end, shown, recorder)
         }
         None => {
             let shown = shown_exit(alloc, activation.proc.last, recorder)?;
             let end = take_exit(alloc, program, activation, store)?;
-            record(end, shown, recorder)
+            note_shown(end, shown, recorder)
         }
     }
 }
@@ -305,7 +305,7 @@ pub(crate) fn turn<'a>(
         At::Exited(store) => match waiting.pop() {
             Some(suspended) => {
                 let after = give_back(alloc, program, store, suspended)?;
-                record_return(alloc, recorder)?;
+                note_return(alloc, recorder)?;
                 Ok(Turned::Goes(after))
             }
             None => Ok(Turned::Ends(RunEnd::Exit, store)),

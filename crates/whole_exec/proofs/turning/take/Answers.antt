@@ -37,8 +37,8 @@ returns-in-Some-clause-goes c =
     let waiting = all_waiting c.args.waiting.now in
     let goes = takes_by c.args.program.now entry waiting c.args.store (form_of c.in-Some.found) xs left
     (turn_of (all_waiting c.take_next.new.waiting) c.in_ok-end.end) skips c.in_ok-end.ensures.goes in
-    IfOk-weaker c.record.result _ _ (λ end same. subst (λ (e : Result At Halted). Takes c.args.program.now entry waiting c.args.store xs
-    (turn_of (all_waiting c.take_next.new.waiting) e)) (sym same) goes) c.record.ensures.same
+    IfOk-weaker c.note_shown.result _ _ (λ end same. subst (λ (e : Result At Halted). Takes c.args.program.now entry waiting c.args.store xs
+    (turn_of (all_waiting c.take_next.new.waiting) e)) (sym same) goes) c.note_shown.ensures.same
 
 pub returns-in-Some-clause-stops : goal.returns-in-Some-clause-stops
 returns-in-Some-clause-stops c =
@@ -48,13 +48,13 @@ returns-in-Some-clause-stops c =
     let entry = entry_of c.args.activation in
     let stops = halts_by c.args.program.now c.args.activation c.args.store (form_of c.in-Some.found) xs left c.in_ok-end.end skips
     c.in_ok-end.ensures.stops in
-    IfOk-weaker c.record.result _ _ (λ end same. subst (λ (e : Result At Halted).
-    IfErr e (λ halted. LeftStops c.args.program.now entry c.args.store xs halted.at)) (sym same) stops) c.record.ensures.same
+    IfOk-weaker c.note_shown.result _ _ (λ end same. subst (λ (e : Result At Halted).
+    IfErr e (λ halted. LeftStops c.args.program.now entry c.args.store xs halted.at)) (sym same) stops) c.note_shown.ensures.same
 
 pub returns-in-Some-clause-kept : goal.returns-in-Some-clause-kept
 returns-in-Some-clause-kept c =
-    IfOk-weaker c.record.result _ _ (λ end same. subst (λ (e : Result At Halted).
-    IfErr e (λ halted. all_waiting c.take_next.new.waiting ≡ all_waiting c.args.waiting.now)) (sym same) c.in_ok-end.ensures.kept) c.record.ensures.same
+    IfOk-weaker c.note_shown.result _ _ (λ end same. subst (λ (e : Result At Halted).
+    IfErr e (λ halted. all_waiting c.take_next.new.waiting ≡ all_waiting c.args.waiting.now)) (sym same) c.in_ok-end.ensures.kept) c.note_shown.ensures.same
 
 pub returns-in-Some-clause-shows : goal.returns-in-Some-clause-shows
 returns-in-Some-clause-shows c =
@@ -66,8 +66,8 @@ returns-in-Some-clause-shows c =
     let shown = subst (λ (ts : List TypeEntry). recorded c.args.recorder.now c.in_ok-shown.shown
     ≡ recorded c.args.recorder.now (form_shows ts c.args.store [] (form_of c.in-Some.found))) c.types.ensures c.in_ok-shown.ensures in
     let same = shown ∙ ap (λ (l : List Event). recorded c.args.recorder.now l) (sym (shows_by types last c.args.store c.in-Some.found xs left skips)) in
-    IfOk-weaker c.record.result _ _ (λ end shows. shows_as c.args.recorder.now c.record.new.recorder c.in_ok-shown.shown
-    (left_shows types last c.args.store xs) end same shows) c.record.ensures.shows
+    IfOk-weaker c.note_shown.result _ _ (λ end shows. shows_as c.args.recorder.now c.note_shown.new.recorder c.in_ok-shown.shown
+    (left_shows types last c.args.store xs) end same shows) c.note_shown.ensures.shows
 
 pub returns-in-None-clause-goes : goal.returns-in-None-clause-goes
 returns-in-None-clause-goes c =
@@ -78,8 +78,8 @@ returns-in-None-clause-goes c =
     let entry = entry_of c.args.activation in
     let goes = takes_exit c.args.program.now entry waiting c.args.store xs left (turn_of waiting c.in_ok-end-in-None.end) skips
     (c.in_ok-found.ensures.all c.in-None.is) (c.in_ok-end-in-None.ensures.goes waiting) in
-    IfOk-weaker c.record-in-None.result _ _ (λ end same. subst (λ (e : Result At Halted). Takes c.args.program.now entry waiting c.args.store xs
-    (turn_of waiting e)) (sym same) goes) c.record-in-None.ensures.same
+    IfOk-weaker c.note_shown-in-None.result _ _ (λ end same. subst (λ (e : Result At Halted). Takes c.args.program.now entry waiting c.args.store xs
+    (turn_of waiting e)) (sym same) goes) c.note_shown-in-None.ensures.same
 
 pub returns-in-None-clause-stops : goal.returns-in-None-clause-stops
 returns-in-None-clause-stops c =
@@ -89,8 +89,8 @@ returns-in-None-clause-stops c =
     let entry = entry_of c.args.activation in
     let stops = halts_exit c.args.program.now entry c.args.store xs left c.in_ok-end-in-None.end skips (c.in_ok-found.ensures.all c.in-None.is)
     c.in_ok-end-in-None.ensures.stops in
-    IfOk-weaker c.record-in-None.result _ _ (λ end same. subst (λ (e : Result At Halted).
-    IfErr e (λ halted. LeftStops c.args.program.now entry c.args.store xs halted.at)) (sym same) stops) c.record-in-None.ensures.same
+    IfOk-weaker c.note_shown-in-None.result _ _ (λ end same. subst (λ (e : Result At Halted).
+    IfErr e (λ halted. LeftStops c.args.program.now entry c.args.store xs halted.at)) (sym same) stops) c.note_shown-in-None.ensures.same
 
 pub returns-in-None-clause-shows : goal.returns-in-None-clause-shows
 returns-in-None-clause-shows c =
@@ -101,5 +101,5 @@ returns-in-None-clause-shows c =
     let last = (c.args.activation).proc.now.last in
     let same = c.in_ok-shown-in-None.ensures ∙ ap (λ (l : List Event). recorded c.args.recorder.now l)
     (sym (shows_exit types last c.args.store xs left skips (c.in_ok-found.ensures.all c.in-None.is))) in
-    IfOk-weaker c.record-in-None.result _ _ (λ end shows. shows_as c.args.recorder.now c.record-in-None.new.recorder c.in_ok-shown-in-None.shown
-    (left_shows types last c.args.store xs) end same shows) c.record-in-None.ensures.shows
+    IfOk-weaker c.note_shown-in-None.result _ _ (λ end shows. shows_as c.args.recorder.now c.note_shown-in-None.new.recorder c.in_ok-shown-in-None.shown
+    (left_shows types last c.args.store xs) end same shows) c.note_shown-in-None.ensures.shows
