@@ -54,8 +54,8 @@ module _ (types : List TypeEntry) where
   items-stop c s shown t fault h = (TracesCode-is c s shown t (Err fault)).1 (inr (fault, h, refl))
 
   -- its items, and then its tail
-  goes : (c : Code) (s u t : StoreMap) (x : Tail) (before after : List Event) (end : Result ℕ Fault) → c.tail ≡ x → TracesItems types c.items s before u (Ok tt) →
-      TracesTail x u after t end → TracesCode types c s (before ++ after) t end
+  goes : (c : Code) (s u t : StoreMap) (x : Tail) (before after : List Event) (end : Result ℕ Fault) → c.tail ≡ x →
+      TracesItems types c.items s before u (Ok tt) → TracesTail x u after t end → TracesCode types c s (before ++ after) t end
   goes c s u t x before after end is h g = (TracesCode-is c s (before ++ after) t end).1
       (inl (u, before, after, h, subst (λ (y : Tail). TracesTail y u after t end) (sym is) g, refl))
 

@@ -1,7 +1,7 @@
 //! A step that fails.
 
 use store_core::Store;
-use store_exec::{Cause, Fault};
+use store_exec::Cause;
 
 /// Why a step fails and at which line, and the store where the run stands: the one before an act or a condition, and the one that
 /// arrives at a cut.
@@ -10,19 +10,4 @@ pub(crate) struct Halted {
     pub cause: Cause,
     pub line: u32,
     pub at: Store,
-}
-
-impl Halted {
-    ghost use Rattle.std.specs.Prelude.{◌≡◌};
-
-    /// This fault, at this store.
-    pub(crate) fn of(fault: Fault, at: Store) -> Halted
-        ensures { result ≡ record { cause = fault.cause; line = fault.line; at = at } }
-    {
-        Halted {
-            cause: fault.cause,
-            line: fault.line,
-            at,
-        }
-    }
 }

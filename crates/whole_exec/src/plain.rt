@@ -47,6 +47,10 @@ pub(crate) fn run_act(
     let mut at = store;
     match execute(alloc, types, line, act, &mut at)? {
         Ok(()) => Ok(Ok(at)),
-        Err(fault) => Ok(Err(Halted::of(fault, at))),
+        Err(fault) => Ok(Err(Halted {
+            cause: fault.cause,
+            line: fault.line,
+            at,
+        })),
     }
 }

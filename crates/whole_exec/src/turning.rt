@@ -114,7 +114,11 @@ fn take_if<'a>(
             push_block(truth, yes, no, &mut activation.left)?;
             Ok(Ok(At::Running(activation, store)))
         }
-        Err(fault) => Ok(Err(Halted::of(fault, store))),
+        Err(fault) => Ok(Err(Halted {
+            cause: fault.cause,
+            line: fault.line,
+            at: store,
+        })),
     }
 }
 
@@ -135,7 +139,11 @@ fn take_behind<'a>(
             push_body(truth, behind, &mut activation.left)?;
             Ok(Ok(At::Running(activation, store)))
         }
-        Err(fault) => Ok(Err(Halted::of(fault, store))),
+        Err(fault) => Ok(Err(Halted {
+            cause: fault.cause,
+            line: fault.line,
+            at: store,
+        })),
     }
 }
 
