@@ -4,5 +4,3 @@ pub mod Forms
 pub mod Values
 pub mod Turnable
 pub mod Going
-pub mod Ending
-pub mod Naming

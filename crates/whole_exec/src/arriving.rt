@@ -8,37 +8,32 @@ ghost use Rattle.hoare_split.specs.Picking.{test_of};
 ghost use Rattle.hoare_split.specs.Settings.{settings};
 ghost use Rattle.whole_exec.specs.Turning.{ArrivesAs, CanSet, SetsAs};
 
-use crate::halted::Halted;
 use crate::plain::run_items;
 use hoare_split::{Caller, Pick, set_picked};
 use std::alloc::{AllocError, Global};
 use store_core::{Store, TypeTable, VarTable};
-use store_exec::{Cut, ItemList};
+use store_exec::{Cut, Fault, ItemList};
 use store_runner::at_cut;
 use whole_handing::restricted;
 
-/// The store arrives at a cut: without a cause there the run goes on with its logic sets restricted to the live cells. The freed cells
-/// are let go before, so that each cell is a look-up.
+/// The store arrives at a cut: without a cause there the run goes on with its logic sets restricted to the live cells.
 pub(crate) fn arrive(
     alloc: Global,
     types: &TypeTable,
     vars: &VarTable,
     cut: &Cut,
     store: Store,
-) -> Result<Result<Store, Halted>, AllocError>
+) -> Result<Result<Store, Fault>, AllocError>
     requires fits { Fits types.now vars.now store }
     requires cut { CutFits types.now vars.now cut.now }
     ensures { IfOk result (ArrivesAs types.now vars.now cut.now store) }
 {
-    let mut at = store;
-    at.settle();
-    match at_cut(alloc, types, vars, cut, &at)? {
-        Some(cause) => Ok(Err(Halted {
+    match at_cut(alloc, types, vars, cut, &store)? {
+        Some(cause) => Ok(Err(Fault {
             cause,
             line: cut.line,
-            at,
         })),
-        None => Ok(Ok(restricted(alloc, vars, at)?)),
+        None => Ok(Ok(restricted(alloc, vars, store)?)),
     }
 }
 
@@ -68,7 +63,7 @@ pub(crate) fn set_and_arrive(
     pick: Pick<'_>,
     cut: &Cut,
     store: Store,
-) -> Result<Result<Store, Halted>, AllocError>
+) -> Result<Result<Store, Fault>, AllocError>
     requires set { CanSet caller.program.now caller.vars.now (settings caller.vars.now (test_of pick) cut.now.line) store }
     requires cut { CutFits caller.program.now.types caller.vars.now cut.now }
     ensures { IfOk result (SetsAs caller.entry.program.now.types caller.entry.vars.now
