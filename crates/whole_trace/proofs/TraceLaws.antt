@@ -69,22 +69,22 @@ module _ (program : TypedProgram) where
         (shown : List Event) × (stand : Stand) × TracesBy program first state (Traces program first n) turn shown stand answer
     traced-by state n traced (goes next) answer leads ends =
         let later = traced next answer ends in
-        (state_shows program state ++ later.0, later.1, later.0, refl, later.2)
+        (state_shows program state ++ later.0, later.1, (later.0, refl, later.2))
     traced-by state n traced (fails why line) answer leads is =
         let stops = step-stops state why line leads in
-        ([], stand_at first state stops.0, stops.0, stops.1, refl, refl, is)
+        ([], stand_at first state stops.0, (stops.0, stops.1, refl, refl, is))
 
     ends-traced : (n : ℕ) (state : State) (answer : Answer) → Ends program n state answer → Has n state answer
-    ends-traced zero (runs f waiting) answer is = ([], stand_at first (runs f waiting) f.store, (refl, refl), is)
-    ends-traced zero (exited t []) answer is = ([], stand_at first (exited t []) t, (refl, refl), is)
-    ends-traced zero (exited t (w ∷ waiting)) answer is = ([], stand_at first (exited t (w ∷ waiting)) t, (refl, refl), is)
+    ends-traced zero (runs f waiting) answer is = ([], stand_at first (runs f waiting) f.store, ((refl, refl), is))
+    ends-traced zero (exited t []) answer is = ([], stand_at first (exited t []) t, ((refl, refl), is))
+    ends-traced zero (exited t (w ∷ waiting)) answer is = ([], stand_at first (exited t (w ∷ waiting)) t, ((refl, refl), is))
     ends-traced (suc n) (runs f waiting) answer (turn, takes, ends) =
         let it = traced-by (runs f waiting) n (ends-traced n) turn answer takes ends in
-        (it.0, it.1, turn, takes, it.2)
-    ends-traced (suc n) (exited t []) answer is = ([], stand_at first (exited t []) t, (refl, refl), is)
+        (it.0, it.1, (turn, takes, it.2))
+    ends-traced (suc n) (exited t []) answer is = ([], stand_at first (exited t []) t, ((refl, refl), is))
     ends-traced (suc n) (exited t (w ∷ waiting)) answer (turn, returns, ends) =
         let it = traced-by (exited t (w ∷ waiting)) n (ends-traced n) turn answer returns ends in
-        (it.0, it.1, turn, returns, it.2)
+        (it.0, it.1, (turn, returns, it.2))
 
   pub trace-answers : (number : ℕ) (s : StoreMap) (n : ℕ) (shown : List Event) (stand : Stand) (answer : Answer) →
       TracedRun program number s n shown stand answer → WholeRun program number s n answer
@@ -98,4 +98,4 @@ module _ (program : TypedProgram) where
       (shown : List Event) × (stand : Stand) × TracedRun program number s n shown stand answer
   run-traced number s n answer (entry, there, h) =
       let it = ends-traced number n (runs (record { entry = entry; store = s; left = entry.proc.body }) []) answer h in
-      (it.0, it.1, entry, there, it.2)
+      (it.0, it.1, (entry, there, it.2))
