@@ -44,11 +44,7 @@ fn evaluate(
 }
 
 /// The live cell of which a field is written, which has it.
-fn written_cell(
-    store: &Store,
-    through: Option<CellId>,
-    field: FieldId,
-) -> Result<CellId, Cause>
+fn written_cell(store: &Store, through: Option<CellId>, field: FieldId) -> Result<CellId, Cause>
     ensures { result ≡ cell_written store.now through field }
 {
     let cell = cell_through(store, &Value::Cell(through))?;

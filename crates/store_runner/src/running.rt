@@ -28,7 +28,14 @@ fn go(
     let nothing = Value::Cell(None);
     let mut rest = code;
     loop {
-        match run_items(alloc, types, &nothing, rest.items.as_slice(), store, recorder)? {
+        match run_items(
+            alloc,
+            types,
+            &nothing,
+            rest.items.as_slice(),
+            store,
+            recorder,
+        )? {
             Ok(()) => {}
             Err(fault) => return Ok(Err(fault)),
         }

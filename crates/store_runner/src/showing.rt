@@ -35,12 +35,7 @@ fn given(
 }
 
 /// Shows the cell that is made.
-fn push_made(
-    line: u32,
-    rhs: &Rhs,
-    store: &Store,
-    events: &mut EventList,
-) -> Result<(), AllocError>
+fn push_made(line: u32, rhs: &Rhs, store: &Store, events: &mut EventList) -> Result<(), AllocError>
     ensures { OnOk result (events.new ≡ events.old ++ made_events line store.now rhs.now) }
 {
     match rhs {

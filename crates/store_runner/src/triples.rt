@@ -76,15 +76,7 @@ pub fn trace_triple(
     traces_keep_stores_fitting();
     let traced = trace(alloc, types, &triple.code, store)?;
     match traced.end {
-        Ok(place) => arrived(
-            alloc,
-            types,
-            vars,
-            triple,
-            place,
-            traced.events,
-            traced.at,
-        ),
+        Ok(place) => arrived(alloc, types, vars, triple, place, traced.events, traced.at),
         Err(_) => Ok(traced),
     }
 }

@@ -99,9 +99,13 @@ module _ (types : List TypeEntry) where
       by : Follows (RunsItems types c.items s) (RunsTail types c.tail) out → HasOut (TracesCode types c) s out
       by (inl (u, first, behind)) =
           let here = ended (TracesItems types c.items) s u (items-traced c.items s (Ok u) first) in
-          let later = next u out behind in
-          (here.0 ++ later.0, later.1, later.2,
-          (TracesCode-is types c s (here.0 ++ later.0) later.1 later.2).1 (inl (u, here.0, later.0, here.1, later.3, refl)), later.4)
+          let later = next u out behind in (
+            here.0 ++ later.0,
+            later.1,
+            later.2,
+            (TracesCode-is types c s (here.0 ++ later.0) later.1 later.2).1 (inl (u, here.0, later.0, here.1, later.3, refl)),
+            later.4,
+          )
       by (inr (fault, first, is)) =
           let here = stopped (TracesItems types c.items) s fault (items-traced c.items s (Err fault) first) in
           (here.0, here.1, Err fault, (TracesCode-is types c s here.0 here.1 (Err fault)).1 (inr (fault, here.2, refl)), is)

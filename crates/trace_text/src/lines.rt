@@ -65,12 +65,7 @@ fn push_new(
 }
 
 /// `line L free N`
-fn push_free(
-    alloc: Global,
-    line: u32,
-    cell: CellId,
-    text: &mut Vec<u8>,
-) -> Result<(), AllocError>
+fn push_free(alloc: Global, line: u32, cell: CellId, text: &mut Vec<u8>) -> Result<(), AllocError>
     ensures { OnOk result (text.new.items ≡ text.old.items ++ line_with line (codes "free " ++ decimal cell.0)) }
 {
     push_head(alloc, line, text)?;
@@ -80,12 +75,7 @@ fn push_free(
 }
 
 /// `line L true` or `line L false`
-fn push_told(
-    alloc: Global,
-    line: u32,
-    truth: bool,
-    text: &mut Vec<u8>,
-) -> Result<(), AllocError>
+fn push_told(alloc: Global, line: u32, truth: bool, text: &mut Vec<u8>) -> Result<(), AllocError>
     ensures { OnOk result (text.new.items ≡ text.old.items ++ line_with line (truth_text truth)) }
 {
     push_head(alloc, line, text)?;
