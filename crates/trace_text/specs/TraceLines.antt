@@ -10,7 +10,6 @@ use Rattle.store_core.specs.Stores.{StoreMap}
 use Rattle.store_logic.specs.declared.path.Path.{Path}
 use Rattle.store_text.specs.StoreText.{value_text, variant_text, store_text_of}
 use Rattle.store_words.specs.Words.{field_name}
-use Rattle.pale_typed.specs.declared.typed.ProcEntry.{ProcEntry}
 use Rattle.pale_typed.specs.TypedPrograms.{TypedProgram}
 use Rattle.store_trace.specs.declared.event.Event.{Event}
 use Rattle.store_trace.specs.declared.event.Event.TheVariants as event
