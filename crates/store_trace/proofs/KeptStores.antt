@@ -1,5 +1,5 @@
 -- Where a traced code stands its store fits its tables.
-use Rattle.std.proofs.Common.{◌≡◌, inl, inr, ℕ, Bool, true, false, List, [], ◌∷◌, ◌++◌, Result, Ok, Err, sym, subst}
+use Rattle.std.proofs.Common.{◌≡◌, inl, inr, ℕ, Bool, true, false, List, Result, Ok, Err, sym, subst}
 use Rattle.store_core.specs.Tables.{TypeEntry, VarEntry}
 use Rattle.store_core.specs.Stores.{StoreMap}
 use Rattle.store_logic.specs.declared.act.Act.{Act}
@@ -12,7 +12,7 @@ use Rattle.store_exec.specs.declared.code.Item.TheVariants as item
 use Rattle.store_exec.specs.declared.code.Code.{Code}
 use Rattle.store_exec.specs.declared.code.Tail.{Tail}
 use Rattle.store_exec.specs.declared.code.Tail.TheVariants as tail
-use Rattle.store_exec.specs.Fits.{ItemFits, ItemsFit, CodeFits}
+use Rattle.store_exec.specs.Fits.{ItemsFit, CodeFits}
 use Rattle.store_exec.specs.Steps.{truth_of}
 use Rattle.store_exec.proofs.KeepLemmas.{IsWell, Step-keeps}
 use Rattle.store_exec.proofs.GoingLemmas.{ItemFits-Do, ItemFits-If}

@@ -1,5 +1,5 @@
 -- There is one trace alone.
-use Rattle.std.proofs.Common.{◌≡◌, inl, inr, ℕ, Bool, true, false, List, [], ◌∷◌, ◌++◌, Result, Ok, Err, refl, sym, ap, ap₂, ◌∙◌, subst}
+use Rattle.std.proofs.Common.{◌≡◌, inl, inr, ℕ, Bool, true, false, List, ◌∷◌, ◌++◌, Result, Ok, Err, refl, sym, ap, ap₂, ◌∙◌, subst}
 use Rattle.store_core.specs.Tables.{TypeEntry}
 use Rattle.store_core.specs.Stores.{StoreMap}
 use Rattle.store_logic.specs.declared.act.Act.{Act}
@@ -11,12 +11,11 @@ use Rattle.store_exec.specs.declared.code.Item.TheVariants as item
 use Rattle.store_exec.specs.declared.code.Code.{Code}
 use Rattle.store_exec.specs.declared.code.Tail.{Tail}
 use Rattle.store_exec.specs.declared.code.Tail.TheVariants as tail
-use Rattle.store_exec.specs.Steps.{truth_of, Step}
+use Rattle.store_exec.specs.Steps.{truth_of}
 use Rattle.store_exec.proofs.OneEndLemmas.{Step-one}
 use Rattle.store_exec.proofs.InductionLemmas.{items-induction, codes-induction}
 use Rattle.store_trace.specs.declared.event.Event.{Event}
 use Rattle.store_trace.specs.declared.event.Event.TheVariants as event
-use Rattle.store_trace.specs.Showing.{events_of}
 use Rattle.store_trace.specs.Tracing.{Tracing, Then, Does, ByTruth, TracesItem, TracesItems, TracesCode}
 use Rattle.store_trace.proofs.TraceLemmas.{TracesItem-Do, TracesItem-If}
 use Rattle.store_trace.proofs.CodeTraces.{TracesTail, TracesCode-is, TracesTail-Cut, TracesTail-Branch}

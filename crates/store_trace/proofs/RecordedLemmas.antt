@@ -1,5 +1,5 @@
 -- What is recorded, one thing after another.
-use Rattle.std.proofs.Common.{◌≡◌, Bool, true, false, List, [], ◌++◌, Option, Some, None, is_some, refl, ap}
+use Rattle.std.proofs.Common.{◌≡◌, false, List, [], ◌++◌, Option, Some, None, is_some, refl, ap}
 use Rattle.std.proofs.lemmas.List.{append_assoc, append-nil}
 use Rattle.store_trace.specs.declared.event.Event.{Event}
 use Rattle.store_trace.specs.Recording.{recorded}

@@ -1,5 +1,5 @@
 -- What runs has a trace.
-use Rattle.std.proofs.Common.{◌≡◌, inl, inr, ℕ, Bool, true, false, List, [], ◌∷◌, ◌++◌, Result, Ok, Err, refl, sym, ap, ◌∙◌, subst}
+use Rattle.std.proofs.Common.{◌≡◌, inl, inr, ℕ, Bool, true, false, List, [], ◌∷◌, ◌++◌, Result, Ok, Err, refl, sym, subst}
 use Rattle.store_core.specs.Tables.{TypeEntry}
 use Rattle.store_core.specs.Stores.{StoreMap}
 use Rattle.store_logic.specs.declared.act.Act.{Act}
@@ -12,8 +12,7 @@ use Rattle.store_exec.specs.declared.code.Code.{Code}
 use Rattle.store_exec.specs.declared.code.Tail.{Tail}
 use Rattle.store_exec.specs.declared.code.Tail.TheVariants as tail
 use Rattle.store_exec.specs.declared.outcome.Outcome.{Outcome}
-use Rattle.store_exec.specs.declared.outcome.Outcome.TheVariants as outcome
-use Rattle.store_exec.specs.Steps.{truth_of, Step}
+use Rattle.store_exec.specs.Steps.{truth_of}
 use Rattle.store_exec.specs.Runs.{Ending, RunsItem, RunsItems, Branches, Follows, RunsCode}
 use Rattle.store_exec.specs.Runs as runs
 use Rattle.store_exec.proofs.RunLemmas.{RunsItem-Do, RunsItem-If}
@@ -22,7 +21,7 @@ use Rattle.store_exec.proofs.InductionLemmas.{items-induction, codes-induction}
 use Rattle.store_trace.specs.declared.event.Event.{Event}
 use Rattle.store_trace.specs.declared.event.Event.TheVariants as event
 use Rattle.store_trace.specs.Showing.{events_of}
-use Rattle.store_trace.specs.Tracing.{Tracing, Then, Does, ByTruth, TracesItem, TracesItems, TracesCode, outcome_of}
+use Rattle.store_trace.specs.Tracing.{Tracing, Does, ByTruth, TracesItem, TracesItems, TracesCode, outcome_of}
 use Rattle.store_trace.proofs.TraceLemmas.{TracesItem-Do, TracesItem-If}
 use Rattle.store_trace.proofs.CodeTraces.{TracesTail, TracesCode-is, TracesTail-Cut, TracesTail-Branch}
 use Rattle.store_trace.proofs.TracedRuns.{ending_of}

@@ -1,5 +1,5 @@
 -- Traces and runs.
-use Rattle.std.proofs.Common.{◌≡◌, inl, inr, ℕ, Bool, true, false, List, [], ◌∷◌, ◌++◌, Result, Ok, Err, refl, sym, ap, ◌∙◌, subst}
+use Rattle.std.proofs.Common.{◌≡◌, inl, inr, ℕ, Bool, true, false, List, ◌∷◌, Result, Ok, Err, sym, ap, ◌∙◌, subst}
 use Rattle.store_core.specs.Tables.{TypeEntry}
 use Rattle.store_core.specs.Stores.{StoreMap}
 use Rattle.store_logic.specs.declared.act.Act.{Act}
@@ -11,7 +11,6 @@ use Rattle.store_exec.specs.declared.code.Item.TheVariants as item
 use Rattle.store_exec.specs.declared.code.Code.{Code}
 use Rattle.store_exec.specs.declared.code.Tail.{Tail}
 use Rattle.store_exec.specs.declared.code.Tail.TheVariants as tail
-use Rattle.store_exec.specs.declared.outcome.Outcome.{Outcome}
 use Rattle.store_exec.specs.declared.outcome.Outcome.TheVariants as outcome
 use Rattle.store_exec.specs.Steps.{truth_of}
 use Rattle.store_exec.specs.Runs.{Ending, RunsItem, RunsItems, Branches, Follows, RunsCode}
@@ -20,8 +19,6 @@ use Rattle.store_exec.proofs.RunLemmas.{RunsItem-Do, RunsItem-If}
 use Rattle.store_exec.proofs.CodeLemmas.{RunsTail, RunsCode-is, RunsTail-Cut, RunsTail-Branch}
 use Rattle.store_exec.proofs.InductionLemmas.{items-induction, codes-induction}
 use Rattle.store_trace.specs.declared.event.Event.{Event}
-use Rattle.store_trace.specs.declared.event.Event.TheVariants as event
-use Rattle.store_trace.specs.Showing.{events_of}
 use Rattle.store_trace.specs.Tracing.{Then, Does, ByTruth, TracesItem, TracesItems, TracesCode, outcome_of}
 use Rattle.store_trace.proofs.TraceLemmas.{TracesItem-Do, TracesItem-If}
 use Rattle.store_trace.proofs.CodeTraces.{TracesTail, TracesCode-is, TracesTail-Cut, TracesTail-Branch}
