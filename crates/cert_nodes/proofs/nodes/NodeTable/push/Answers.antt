@@ -1,8 +1,8 @@
 use Rattle.std.proofs.Common.{rules, List, sym, subst}
 use Rattle.cert_text.specs.declared.line.NodeLine.{NodeLine}
-use Rattle.cert_check.specs.Nodes.{MayFollow}
-use Rattle.cert_check.proofs.NodesLemmas.{AreNodes_grown, AreNodes_kept}
-use Rattle.cert_check.proofs.nodes.NodeTable.push.Goals as goal
+use Rattle.cert_nodes.specs.Nodes.{MayFollow}
+use Rattle.cert_nodes.proofs.NodesLemmas.{AreNodes_grown, AreNodes_kept}
+use Rattle.cert_nodes.proofs.nodes.NodeTable.push.Goals as goal
 
 pub invariant_of-self : goal.invariant_of-self
 invariant_of-self c = AreNodes_kept c.self.inside.nodes c.push.new.self c.self.invariant c.in_err-push.ensures.err

@@ -7,8 +7,8 @@ use Rattle.gta_theory.specs.Listed.{meanings}
 use Rattle.cert_text.specs.declared.line.Target.{Target}
 use Rattle.cert_text.specs.declared.line.Target.TheVariants as target
 use Rattle.cert_text.specs.declared.line.NodeLine.{NodeLine}
-use Rattle.cert_check.specs.declared.nodes.NodeFault.{NodeFault}
-use Rattle.cert_check.specs.declared.nodes.NodeFault.TheVariants as fault
+use Rattle.cert_nodes.specs.declared.nodes.NodeFault.{NodeFault}
+use Rattle.cert_nodes.specs.declared.nodes.NodeFault.TheVariants as fault
 
 -- the state that a target leads to on a label, by what the nodes before it lead to; a node that isn't there counts as state 0
 abbrev pub state_on : List (Label → ℕ) → Target → Label → ℕ

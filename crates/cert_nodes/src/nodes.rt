@@ -1,7 +1,7 @@
 //! The decision nodes of a section.
 
 ghost use Rattle.std.specs.Prelude.{◌≡◌, ◌↔◌, [], ◌∷◌, ◌++◌, length, IsTrue, IfErr, OnOk, OnErr};
-ghost use Rattle.cert_check.specs.Nodes.{node_at, IsThere, is_under, MayFollow, IsFaultOf};
+ghost use Rattle.cert_nodes.specs.Nodes.{node_at, AreNodes, IsThere, is_under, MayFollow, IsFaultOf};
 
 use cert_text::{NodeLine, Target};
 use plain_data::{Items, at};
@@ -21,7 +21,7 @@ pub enum NodeFault {
 
 impl From<AllocError> for NodeFault {
     ghost use Rattle.std.specs.Prelude.{◌≡◌};
-    ghost use Rattle.cert_check.specs.declared.nodes.NodeFault.TheVariants.{NoMemory};
+    ghost use Rattle.cert_nodes.specs.declared.nodes.NodeFault.TheVariants.{NoMemory};
 
     ghost from_gives = { λ _ fault. fault ≡ NoMemory };
 
@@ -49,7 +49,7 @@ impl Model for NodeTable {
 
     ghost view = { λ table. table.nodes };
 
-    ghost use Rattle.cert_check.specs.Nodes.{AreNodes};
+    ghost use Rattle.cert_nodes.specs.Nodes.{AreNodes};
 
     ghost invariant = { λ table. AreNodes table.nodes };
 }
@@ -66,7 +66,8 @@ impl NodeTable {
 
     /// How many nodes there are. Takes no memory.
     pub fn len(&self) -> usize
-        ensures { result ≡ length self.now }
+        ensures value { result ≡ length self.now }
+        ensures nodes { AreNodes self.now }
     {
         self.nodes.len()
     }

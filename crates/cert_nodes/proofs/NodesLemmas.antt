@@ -4,7 +4,7 @@ use Rattle.std.proofs.lemmas.List.{take-append-le, take_all}
 use Rattle.std.proofs.lemmas.Option.{slice_get_within}
 use Rattle.gta_theory.proofs.ListedLemmas.{slice_get-push}
 use Rattle.cert_text.specs.declared.line.NodeLine.{NodeLine}
-use Rattle.cert_check.specs.Nodes.{MayFollow, AreNodes}
+use Rattle.cert_nodes.specs.Nodes.{MayFollow, AreNodes}
 
 -- one that may follow does
 pub AreNodes-push : (nodes : List NodeLine) (node : NodeLine) → AreNodes nodes → MayFollow nodes node → AreNodes (nodes ++ node ∷ [])

@@ -1,0 +1,3 @@
+pub mod PairKeysLemmas
+pub mod PairsLemmas
+pub mod ConjunctionsLemmas

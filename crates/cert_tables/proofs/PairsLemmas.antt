@@ -1,0 +1,199 @@
+-- How pairs go along with steps.
+use Rattle.std.proofs.Common.{◌≡◌, ◌⊎◌, inl, inr, ℕ, Bool, true, false, List, [], ◌∷◌, ◌++◌, map, Contains, refl, ap, sym, ◌∙◌, subst}
+use Rattle.std.specs.Prelude.{◌↔◌, IsTrue}
+use Rattle.std.proofs.lemmas.List.Elements.{Contains-append_left}
+use Rattle.gta_theory.proofs.ListsLemmas.{Contains-none}
+use Rattle.labels.specs.Labels.{Label}
+use Rattle.gta_theory.specs.Guides.{Spaces, left, right}
+use Rattle.cert_text.specs.declared.line.PairLine.{PairLine}
+use Rattle.cert_theory.specs.Tables.{NamedPair, GoesTo}
+use Rattle.cert_nodes.specs.declared.spots.Spot.{Spot}
+use Rattle.cert_nodes.specs.declared.spots.Diagrams.{Diagrams}
+use Rattle.cert_nodes.specs.Spots.{states_at, IsLedTo}
+use Rattle.cert_nodes.specs.Walks.{AddsAtMost}
+use Rattle.cert_nodes.proofs.WalksLemmas.{last, push-cases, adds-cases, Grows-adds}
+use Rattle.cert_tables.specs.declared.table.Table.{Table}
+use Rattle.cert_tables.specs.declared.class_triples.ClassTriple.{ClassTriple}
+use Rattle.cert_tables.specs.Automata.{table_automaton}
+use Rattle.cert_tables.specs.PairKeys.{named_pair}
+use Rattle.cert_tables.specs.Pairs.{classes_of, spots_of, HasClasses, AreClassesOf, IsStartWith, IsStart, AreStarts, Goes, AllGo, GoAlong}
+use Rattle.cert_tables.proofs.PairKeysLemmas.{line-of, line-goes}
+
+goes-same : (table : List NamedPair) (s p q x p' q' x' : ℕ) → GoesTo table s p q x → p ≡ p' → q ≡ q' → x ≡ x' → GoesTo table s p' q' x'
+goes-same table s p q x p' q' x' goes first second state = record {
+  pair = goes.pair;
+  listed = goes.listed;
+  in_space = goes.in_space;
+  is_first = goes.is_first ∙ first;
+  is_second = goes.is_second ∙ second;
+  is_state = goes.is_state ∙ state;
+}
+
+step-same : (d : Diagrams) (table : Table) (s p q p' q' : ℕ) (label : Label) → p ≡ p' → q ≡ q' →
+    (table_automaton d table).step s p q label ≡ (table_automaton d table).step s p' q' label
+step-same d table s p q p' q' label is_p is_q =
+    ap (λ (n : ℕ). (table_automaton d table).step s n q label) is_p ∙ ap (λ (n : ℕ). (table_automaton d table).step s p' n label) is_q
+
+-- ---- the classes of pairs, one after the other
+
+module _ (is_right : Bool) (s child : ℕ) (a b c : Table) where
+  has-more : (pairs : List PairLine) (pair : PairLine) (triple : ClassTriple) → HasClasses is_right s child a b c pairs triple →
+      HasClasses is_right s child a b c (pairs ++ pair ∷ []) triple
+  has-more pairs pair triple has = record {
+    pair = has.pair;
+    listed = Contains-append_left pairs (pair ∷ []) has.pair has.listed;
+    in_space = has.in_space;
+    classes = has.classes;
+  }
+
+  has-cases : (pairs : List PairLine) (pair : PairLine) (triple : ClassTriple) → HasClasses is_right s child a b c (pairs ++ pair ∷ []) triple →
+      HasClasses is_right s child a b c pairs triple ⊎ ((pair.space ≡ child) × (classes_of is_right s a b c pair ≡ triple))
+  has-cases pairs pair triple has = elim (push-cases pairs pair has.pair has.listed) [
+    | inl old ↦ inl (record { pair = has.pair; listed = old; in_space = has.in_space; classes = has.classes })
+    | inr is ↦ inr (ap (λ (l : PairLine). l.space) is ∙ has.in_space, ap (classes_of is_right s a b c) is ∙ has.classes)
+  ]
+
+  pub classes-none : AreClassesOf is_right s child a b c [] []
+  classes-none triple = ((λ listed. absurd (Contains-none triple listed)), (λ has. absurd (Contains-none has.pair has.listed)))
+
+  pub classes-insert : (pairs : List PairLine) (pair : PairLine) (set grown : List ClassTriple) → AreClassesOf is_right s child a b c pairs set →
+      pair.space ≡ child →
+      ((other : ClassTriple) → Contains grown other ↔ (Contains set other ⊎ (classes_of is_right s a b c pair ≡ other))) →
+      AreClassesOf is_right s child a b c (pairs ++ pair ∷ []) grown
+  classes-insert pairs pair set grown are here adds triple = (
+    (λ listed. elim ((adds triple).0 listed) [
+      | inl old ↦ has-more pairs pair triple ((are triple).0 old)
+      | inr is ↦ record { pair = pair; listed = last pairs pair; in_space = here; classes = is }
+    ]),
+    (λ has. (adds triple).1 (elim (has-cases pairs pair triple has) [
+      | inl old ↦ inl ((are triple).1 old)
+      | inr new ↦ inr new.1
+    ])),
+  )
+
+  pub classes-skip : (pairs : List PairLine) (pair : PairLine) (set : List ClassTriple) → AreClassesOf is_right s child a b c pairs set →
+      (pair.space ≡ child → ⊥) → AreClassesOf is_right s child a b c (pairs ++ pair ∷ []) set
+  classes-skip pairs pair set are elsewhere triple = (
+    (λ listed. has-more pairs pair triple ((are triple).0 listed)),
+    (λ has. elim (has-cases pairs pair triple has) [
+      | inl old ↦ (are triple).1 old
+      | inr new ↦ absurd (elsewhere new.0)
+    ]),
+  )
+
+-- ---- where triples of both sides lead to, one after the other
+
+module _ (s : ℕ) (a b c : Table) where
+  with-more : (l : ClassTriple) (rights : List ClassTriple) (r : ClassTriple) (spots : List Spot) → IsStartWith s a b c l rights spots →
+      IsStartWith s a b c l (rights ++ r ∷ []) spots
+  with-more l rights r spots with = record {
+    r = with.r;
+    on_right = Contains-append_left rights (r ∷ []) with.r with.on_right;
+    leads = with.leads;
+  }
+
+  pub with-none : (l : ClassTriple) (starts : List (List Spot)) (spots : List Spot) →
+      Contains starts spots ↔ (Contains starts spots ⊎ IsStartWith s a b c l [] spots)
+  with-none l starts spots = (
+    (λ listed. inl listed),
+    (λ either. elim either [ inl listed ↦ listed | inr with ↦ absurd (Contains-none with.r with.on_right) ]),
+  )
+
+  pub with-push : (l : ClassTriple) (rights : List ClassTriple) (r : ClassTriple) (old mid new : List (List Spot)) (made : List Spot) →
+      ((spots : List Spot) → Contains mid spots ↔ (Contains old spots ⊎ IsStartWith s a b c l rights spots)) →
+      made ≡ spots_of s a b c l r → AddsAtMost mid made new → Contains new made →
+      (spots : List Spot) → Contains new spots ↔ (Contains old spots ⊎ IsStartWith s a b c l (rights ++ r ∷ []) spots)
+  with-push l rights r old mid new made are is adds there spots = (
+    (λ listed. elim (adds-cases mid new made spots adds listed) [
+      | inl before ↦ elim ((are spots).0 before) [
+        | inl first ↦ inl first
+        | inr with ↦ inr (with-more l rights r spots with)
+      ]
+      | inr made_is ↦ inr (record { r = r; on_right = last rights r; leads = sym is ∙ made_is })
+    ]),
+    (λ either. elim either [
+      | inl first ↦ (Grows-adds mid new made adds).has spots ((are spots).1 (inl first))
+      | inr with ↦ elim (push-cases rights r with.r with.on_right) [
+        | inl before ↦ (Grows-adds mid new made adds).has spots
+            ((are spots).1 (inr (record { r = with.r; on_right = before; leads = with.leads })))
+        | inr r_is ↦ subst (Contains new) (is ∙ ap (spots_of s a b c l) r_is ∙ with.leads) there
+      ]
+    ]),
+  )
+
+  pub starts-none : (rights : List ClassTriple) → AreStarts s a b c [] rights []
+  starts-none rights spots = ((λ listed. absurd (Contains-none spots listed)), (λ start. absurd (Contains-none start.l start.on_left)))
+
+  pub starts-push : (lefts rights : List ClassTriple) (l : ClassTriple) (old new : List (List Spot)) → AreStarts s a b c lefts rights old →
+      ((spots : List Spot) → Contains new spots ↔ (Contains old spots ⊎ IsStartWith s a b c l rights spots)) →
+      AreStarts s a b c (lefts ++ l ∷ []) rights new
+  starts-push lefts rights l old new are adds spots = (
+    (λ listed. elim ((adds spots).0 listed) [
+      | inl before ↦
+          let start = (are spots).0 before in
+          record { l = start.l; on_left = Contains-append_left lefts (l ∷ []) start.l start.on_left; with_right = start.with_right }
+      | inr with ↦ record { l = l; on_left = last lefts l; with_right = with }
+    ]),
+    (λ start. (adds spots).1 (elim (push-cases lefts l start.l start.on_left) [
+      | inl before ↦ inl ((are spots).1 (record { l = start.l; on_left = before; with_right = start.with_right }))
+      | inr is ↦ inr (subst (λ (t : ClassTriple). IsStartWith s a b c t rights spots) (sym is) start.with_right)
+    ])),
+  )
+
+-- ---- all together
+
+module _ (g : Spaces) (d : Diagrams) (a b c : Table) (lines : List PairLine) (s : ℕ) (lefts rights : List ClassTriple)
+    (starts : List (List Spot)) (lists : List (List ℕ))
+    (in_left : AreClassesOf false s (left g s) a b c lines lefts) (in_right : AreClassesOf true s (right g s) a b c lines rights)
+    (started : AreStarts s a b c lefts rights starts) where
+  -- what two lines lead to on a label
+  abbrev led : PairLine → PairLine → Label → List ℕ
+  led l r label = states_at d 0 (spots_of s a b c (classes_of false s a b c l) (classes_of true s a b c r)) label
+
+  all-along : ((spots : List Spot) (label : Label) → Contains starts spots → Contains lists (states_at d 0 spots label)) →
+      AllGo (map named_pair lines) s lists →
+      GoAlong g (table_automaton d a) (table_automaton d b) (map named_pair lines) (table_automaton d c) s
+  all-along come go p q x p' q' y label from_left from_right =
+      let l = line-of lines (left g s) p q x from_left in
+      let r = line-of lines (right g s) p' q' y from_right in
+      let start : IsStart s a b c lefts rights (spots_of s a b c (classes_of false s a b c l.line) (classes_of true s a b c r.line)) = record {
+        l = classes_of false s a b c l.line;
+        on_left = (in_left (classes_of false s a b c l.line)).1 (record { pair = l.line; listed = l.listed; in_space = l.in_space; classes = refl });
+        with_right = record {
+          r = classes_of true s a b c r.line;
+          on_right = (in_right (classes_of true s a b c r.line)).1 (record { pair = r.line; listed = r.listed; in_space = r.in_space; classes = refl });
+          leads = refl;
+        };
+      } in
+      let spots = spots_of s a b c (classes_of false s a b c l.line) (classes_of true s a b c r.line) in
+      let to = go (led l.line r.line label) (come spots label ((started spots).1 start)) in
+      goes-same (map named_pair lines) s
+      ((table_automaton d a).step s l.line.first r.line.first label) ((table_automaton d b).step s l.line.second r.line.second label)
+      ((table_automaton d c).step s l.line.state r.line.state label)
+      ((table_automaton d a).step s p p' label) ((table_automaton d b).step s q q' label) ((table_automaton d c).step s x y label) to
+      (step-same d a s l.line.first r.line.first p p' label l.is_first r.is_first)
+      (step-same d b s l.line.second r.line.second q q' label l.is_second r.is_second)
+      (step-same d c s l.line.state r.line.state x y label l.is_state r.is_state)
+
+  -- and each list that was come to is that of two lines
+  along-all : ((states : List ℕ) → Contains lists states → IsLedTo d 0 starts states) →
+      GoAlong g (table_automaton d a) (table_automaton d b) (map named_pair lines) (table_automaton d c) s →
+      AllGo (map named_pair lines) s lists
+  along-all only along states listed =
+      let from = only states listed in
+      let start = (started from.start).0 from.listed in
+      let l = (in_left start.l).0 start.on_left in
+      let r = (in_right start.with_right.r).0 start.with_right.on_right in
+      let spots_are : spots_of s a b c (classes_of false s a b c l.pair) (classes_of true s a b c r.pair) ≡ from.start =
+      ap (λ (t : ClassTriple). spots_of s a b c t (classes_of true s a b c r.pair)) l.classes
+      ∙ ap (spots_of s a b c start.l) r.classes ∙ start.with_right.leads in
+      subst (Goes (map named_pair lines) s) (ap (λ (spots : List Spot). states_at d 0 spots from.label) spots_are ∙ from.leads)
+      (along l.pair.first l.pair.second l.pair.state r.pair.first r.pair.second r.pair.state from.label
+      (line-goes lines (left g s) l.pair l.listed l.in_space) (line-goes lines (right g s) r.pair r.listed r.in_space))
+
+  pub go-along : (result : Bool) →
+      ((spots : List Spot) (label : Label) → Contains starts spots → Contains lists (states_at d 0 spots label)) →
+      ((states : List ℕ) → Contains lists states → IsLedTo d 0 starts states) →
+      (IsTrue result ↔ AllGo (map named_pair lines) s lists) →
+      IsTrue result ↔ GoAlong g (table_automaton d a) (table_automaton d b) (map named_pair lines) (table_automaton d c) s
+  go-along result come only is = ((λ true_. all-along come (is.0 true_)), (λ along. is.1 (along-all only along)))
