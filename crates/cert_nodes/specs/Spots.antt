@@ -6,7 +6,11 @@ use Rattle.cert_text.specs.declared.line.Target.TheVariants as target
 use Rattle.cert_text.specs.declared.line.NodeLine.{NodeLine}
 use Rattle.cert_nodes.specs.declared.spots.Spot.{Spot}
 use Rattle.cert_nodes.specs.declared.spots.Diagrams.{Diagrams}
-use Rattle.cert_nodes.specs.Nodes.{state_on, functions_of, node_at}
+use Rattle.cert_nodes.specs.Nodes.{state_on, functions_of, node_at, AreNodes}
+
+-- in both lists of nodes each one follows those before it
+abbrev pub AreDrawn : Diagrams → Type 0
+AreDrawn d = AreNodes d.atoms × AreNodes d.told
 
 -- the nodes that the spot stands in
 abbrev pub nodes_of : Diagrams → Spot → List NodeLine

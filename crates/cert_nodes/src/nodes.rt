@@ -66,8 +66,7 @@ impl NodeTable {
 
     /// How many nodes there are. Takes no memory.
     pub fn len(&self) -> usize
-        ensures value { result ≡ length self.now }
-        ensures nodes { AreNodes self.now }
+        ensures { result ≡ length self.now }
     {
         self.nodes.len()
     }
@@ -128,6 +127,7 @@ impl NodeTable {
         ensures kept { OnOk result (self.new ≡ self.old ++ node ∷ []) }
         ensures err { OnErr result (self.new ≡ self.old) }
         ensures fault { IfErr result (λ fault. IsFaultOf self.old node fault) }
+        ensures drawn { OnOk result (AreNodes self.new) }
     {
         if !self.has(node.low) || !self.has(node.high) {
             return Err(NodeFault::Unknown);

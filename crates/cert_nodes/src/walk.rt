@@ -3,7 +3,7 @@
 ghost use Rattle.std.specs.Prelude.{Contains, IfOk, List, ℕ};
 ghost use Rattle.labels.specs.Labels.{Label};
 ghost use Rattle.cert_nodes.specs.declared.spots.Spot.{Spot};
-ghost use Rattle.cert_nodes.specs.Spots.{states_at, IsLedTo};
+ghost use Rattle.cert_nodes.specs.Spots.{AreDrawn, states_at, IsLedTo};
 ghost use Rattle.cert_nodes.specs.Walks.{IsStepFrom};
 
 use crate::met::SpotListSet;
@@ -50,13 +50,11 @@ pub fn led_to(
     dropped: u32,
     starts: SpotListSet,
 ) -> Result<Items<StateList>, AllocError>
+    requires { AreDrawn nodes.now }
     ensures all { IfOk result (λ lists. (spots : List Spot) (label : Label) → Contains starts spots →
         Contains lists (states_at nodes.now dropped spots label)) }
     ensures only { IfOk result (λ lists. (states : List ℕ) → Contains lists states → IsLedTo nodes.now dropped starts states) }
 {
-    // Only for their clauses `nodes`.
-    let _ = nodes.atoms.len();
-    let _ = nodes.told.len();
     let mut met = starts;
     let mut lists = Items::new(alloc);
     for place in 0..usize::MAX {

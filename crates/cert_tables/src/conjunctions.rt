@@ -2,6 +2,7 @@
 
 ghost use Rattle.std.specs.Prelude.{◌≡◌, ◌↔◌, map, IsTrue, IfOk};
 ghost use Rattle.cert_theory.specs.Tables.{IsPairTable};
+ghost use Rattle.cert_nodes.specs.Spots.{AreDrawn};
 ghost use Rattle.cert_tables.specs.Automata.{signed, accepts_signed, table_automaton};
 ghost use Rattle.cert_tables.specs.PairKeys.{named_pair};
 ghost use Rattle.cert_tables.specs.Pairs.{AcceptsAlike, AcceptAlike};
@@ -75,6 +76,7 @@ pub fn lead_to_conjunction(
     pairs: &PairTable,
     c: &Table,
 ) -> Result<bool, AllocError>
+    requires { AreDrawn nodes.now }
     ensures { IfOk result (λ lead. IsTrue lead ↔
         IsPairTable g.now (signed a_negated (table_automaton nodes.now a.now)) (signed b_negated (table_automaton nodes.now b.now))
             (map named_pair pairs.now) (table_automaton nodes.now c.now)) }

@@ -3,6 +3,7 @@
 ghost use Rattle.std.specs.Prelude.{◌≡◌, ◌↔◌, ◌⊎◌, List, map, Contains, IsTrue, IfOk, OnOk};
 ghost use Rattle.cert_nodes.specs.declared.spots.Spot.{Spot};
 ghost use Rattle.cert_nodes.specs.declared.spots.Diagrams.{Diagrams};
+ghost use Rattle.cert_nodes.specs.Spots.{AreDrawn};
 ghost use Rattle.cert_tables.specs.Automata.{table_automaton};
 ghost use Rattle.cert_tables.specs.PairKeys.{named_pair};
 ghost use Rattle.cert_tables.specs.Pairs.{spots_of, IsStartWith, AreStarts, Goes, AllGo, GoAlong, StartsTogether};
@@ -109,6 +110,7 @@ pub fn go_along(
     pairs: &PairTable,
     c: &Table,
 ) -> Result<bool, AllocError>
+    requires { AreDrawn nodes.now }
     ensures { IfOk result (λ go. IsTrue go ↔
         GoAlong g.now (table_automaton nodes.now a.now) (table_automaton nodes.now b.now) (map named_pair pairs.now)
             (table_automaton nodes.now c.now) space) }

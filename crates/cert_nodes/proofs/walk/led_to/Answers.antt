@@ -28,7 +28,7 @@ loop-place-preserved c =
           subst (λ (m : List (List Spot)). WalksFrom d c.args.dropped c.args.starts m c.match-branch-2.lists (place + 1)) (sym w.met-is)
           (subst (λ (ls : List (List ℕ)). WalksFrom d c.args.dropped c.args.starts w.insert-in-Split.new.self ls (place + 1)) (sym w.lists-is)
           (walks-split d c.args.dropped c.args.starts met w.insert.new.self w.insert-in-Split.new.self lists place spots w.in-Split.low.items
-          w.in-Split.high.items c.len.ensures.nodes c.len-2.ensures.nodes c.loop-place.invariant at
+          w.in-Split.high.items c.requires.0 c.requires.1 c.loop-place.invariant at
           (subst (IsStepFrom d c.args.dropped spots) w.in-Split.is c.in_ok-states.ensures)
           w.in_ok-insert-in-Split.ensures.added w.in_ok-insert-in-Split.ensures.there
           w.in_ok-insert-in-Split-2.ensures.added w.in_ok-insert-in-Split-2.ensures.there))
@@ -36,7 +36,7 @@ loop-place-preserved c =
 
 pub returns-in_default : goal.returns-in_default
 returns-in_default c = record {
-  all = walked-all c.args.nodes.now c.args.dropped c.args.starts c.loop-place.met c.loop-place.lists c.loop-place.place c.len.ensures.nodes
-      c.len-2.ensures.nodes c.loop-place.invariant (past c.loop-place.met c.loop-place.place (sym c.in_default.ensures));
+  all = walked-all c.args.nodes.now c.args.dropped c.args.starts c.loop-place.met c.loop-place.lists c.loop-place.place c.requires.0
+      c.requires.1 c.loop-place.invariant (past c.loop-place.met c.loop-place.place (sym c.in_default.ensures));
   only = c.loop-place.invariant.led;
 }

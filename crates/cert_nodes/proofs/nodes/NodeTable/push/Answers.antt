@@ -12,3 +12,9 @@ invariant_of-self-2 c =
     let follows : MayFollow c.self.inside.nodes c.args.node =
     subst (λ (l : List NodeLine). MayFollow l c.args.node) (sym c.self.view_is) (c.may_follow.ensures.0 (search rules)) in
     AreNodes_grown c.self.inside.nodes c.push.new.self c.args.node c.self.invariant follows c.in_ok-push.ensures.ok
+
+pub returns-clause-drawn : goal.returns-clause-drawn
+returns-clause-drawn c =
+    let follows : MayFollow c.self.inside.nodes c.args.node =
+    subst (λ (l : List NodeLine). MayFollow l c.args.node) (sym c.self.view_is) (c.may_follow.ensures.0 (search rules)) in
+    AreNodes_grown c.self.inside.nodes c.push.new.self c.args.node c.self.invariant follows c.in_ok-push.ensures.ok
