@@ -1,3 +1,5 @@
+pub mod EveryLemmas
 pub mod PairKeysLemmas
+pub mod StartsLemmas
 pub mod PairsLemmas
 pub mod ConjunctionsLemmas

@@ -1,6 +1,7 @@
 -- How pairs go along with steps.
-use Rattle.std.proofs.Common.{◌≡◌, ◌⊎◌, inl, inr, ℕ, Bool, true, false, List, [], ◌∷◌, ◌++◌, map, Contains, refl, ap, sym, ◌∙◌, subst}
+use Rattle.std.proofs.Common.{◌≡◌, ◌⊎◌, inl, inr, ℕ, ◌+◌, ◌<◌, ◌≤◌, Bool, true, false, List, [], ◌∷◌, ◌++◌, length, take, get_or, map, Contains, refl, ap, sym, ◌∙◌, subst}
 use Rattle.std.specs.Prelude.{◌↔◌, IsTrue}
+use Rattle.std.proofs.lemmas.List.{take_more, take_all}
 use Rattle.std.proofs.lemmas.List.Elements.{Contains-append_left}
 use Rattle.gta_theory.proofs.ListsLemmas.{Contains-none}
 use Rattle.labels.specs.Labels.{Label}
@@ -10,13 +11,13 @@ use Rattle.cert_theory.specs.Tables.{NamedPair, GoesTo}
 use Rattle.cert_nodes.specs.declared.spots.Spot.{Spot}
 use Rattle.cert_nodes.specs.declared.spots.Diagrams.{Diagrams}
 use Rattle.cert_nodes.specs.Spots.{states_at, IsLedTo}
-use Rattle.cert_nodes.specs.Walks.{AddsAtMost}
-use Rattle.cert_nodes.proofs.WalksLemmas.{last, push-cases, adds-cases, Grows-adds}
+use Rattle.cert_nodes.proofs.WalksLemmas.{last, push-cases}
 use Rattle.cert_tables.specs.declared.table.Table.{Table}
 use Rattle.cert_tables.specs.declared.class_triples.ClassTriple.{ClassTriple}
 use Rattle.cert_tables.specs.Automata.{table_automaton}
 use Rattle.cert_tables.specs.PairKeys.{named_pair}
-use Rattle.cert_tables.specs.Pairs.{classes_of, spots_of, HasClasses, AreClassesOf, IsStartWith, IsStart, AreStarts, Goes, AllGo, GoAlong}
+use Rattle.cert_tables.specs.Pairs.{classes_of, spots_of, HasClasses, AreClassesOf, Goes, AllGo, GoAlong}
+use Rattle.cert_tables.specs.Starts.{IsLedBy, AreLedBy}
 use Rattle.cert_tables.proofs.PairKeysLemmas.{line-of, line-goes}
 
 goes-same : (table : List NamedPair) (s p q x p' q' x' : ℕ) → GoesTo table s p q x → p ≡ p' → q ≡ q' → x ≡ x' → GoesTo table s p' q' x'
@@ -81,71 +82,31 @@ module _ (is_right : Bool) (s child : ℕ) (a b c : Table) where
     ]),
   )
 
--- ---- where triples of both sides lead to, one after the other
+  pub classes-insert-next : (pairs : List PairLine) (i : ℕ) (none : PairLine) (set grown : List ClassTriple) → i < length pairs →
+      AreClassesOf is_right s child a b c (take i pairs) set → (get_or pairs i none).space ≡ child →
+      ((other : ClassTriple) → Contains grown other ↔ (Contains set other ⊎ (classes_of is_right s a b c (get_or pairs i none) ≡ other))) →
+      AreClassesOf is_right s child a b c (take (i + 1) pairs) grown
+  classes-insert-next pairs i none set grown inside are here adds =
+      subst (λ (ls : List PairLine). AreClassesOf is_right s child a b c ls grown) (sym (take_more pairs i none inside))
+      (classes-insert (take i pairs) (get_or pairs i none) set grown are here adds)
 
-module _ (s : ℕ) (a b c : Table) where
-  with-more : (l : ClassTriple) (rights : List ClassTriple) (r : ClassTriple) (spots : List Spot) → IsStartWith s a b c l rights spots →
-      IsStartWith s a b c l (rights ++ r ∷ []) spots
-  with-more l rights r spots with = record {
-    r = with.r;
-    on_right = Contains-append_left rights (r ∷ []) with.r with.on_right;
-    leads = with.leads;
-  }
+  pub classes-skip-next : (pairs : List PairLine) (i : ℕ) (none : PairLine) (set : List ClassTriple) → i < length pairs →
+      AreClassesOf is_right s child a b c (take i pairs) set → ((get_or pairs i none).space ≡ child → ⊥) →
+      AreClassesOf is_right s child a b c (take (i + 1) pairs) set
+  classes-skip-next pairs i none set inside are elsewhere =
+      subst (λ (ls : List PairLine). AreClassesOf is_right s child a b c ls set) (sym (take_more pairs i none inside))
+      (classes-skip (take i pairs) (get_or pairs i none) set are elsewhere)
 
-  pub with-none : (l : ClassTriple) (starts : List (List Spot)) (spots : List Spot) →
-      Contains starts spots ↔ (Contains starts spots ⊎ IsStartWith s a b c l [] spots)
-  with-none l starts spots = (
-    (λ listed. inl listed),
-    (λ either. elim either [ inl listed ↦ listed | inr with ↦ absurd (Contains-none with.r with.on_right) ]),
-  )
-
-  pub with-push : (l : ClassTriple) (rights : List ClassTriple) (r : ClassTriple) (old mid new : List (List Spot)) (made : List Spot) →
-      ((spots : List Spot) → Contains mid spots ↔ (Contains old spots ⊎ IsStartWith s a b c l rights spots)) →
-      made ≡ spots_of s a b c l r → AddsAtMost mid made new → Contains new made →
-      (spots : List Spot) → Contains new spots ↔ (Contains old spots ⊎ IsStartWith s a b c l (rights ++ r ∷ []) spots)
-  with-push l rights r old mid new made are is adds there spots = (
-    (λ listed. elim (adds-cases mid new made spots adds listed) [
-      | inl before ↦ elim ((are spots).0 before) [
-        | inl first ↦ inl first
-        | inr with ↦ inr (with-more l rights r spots with)
-      ]
-      | inr made_is ↦ inr (record { r = r; on_right = last rights r; leads = sym is ∙ made_is })
-    ]),
-    (λ either. elim either [
-      | inl first ↦ (Grows-adds mid new made adds).has spots ((are spots).1 (inl first))
-      | inr with ↦ elim (push-cases rights r with.r with.on_right) [
-        | inl before ↦ (Grows-adds mid new made adds).has spots
-            ((are spots).1 (inr (record { r = with.r; on_right = before; leads = with.leads })))
-        | inr r_is ↦ subst (Contains new) (is ∙ ap (spots_of s a b c l) r_is ∙ with.leads) there
-      ]
-    ]),
-  )
-
-  pub starts-none : (rights : List ClassTriple) → AreStarts s a b c [] rights []
-  starts-none rights spots = ((λ listed. absurd (Contains-none spots listed)), (λ start. absurd (Contains-none start.l start.on_left)))
-
-  pub starts-push : (lefts rights : List ClassTriple) (l : ClassTriple) (old new : List (List Spot)) → AreStarts s a b c lefts rights old →
-      ((spots : List Spot) → Contains new spots ↔ (Contains old spots ⊎ IsStartWith s a b c l rights spots)) →
-      AreStarts s a b c (lefts ++ l ∷ []) rights new
-  starts-push lefts rights l old new are adds spots = (
-    (λ listed. elim ((adds spots).0 listed) [
-      | inl before ↦
-          let start = (are spots).0 before in
-          record { l = start.l; on_left = Contains-append_left lefts (l ∷ []) start.l start.on_left; with_right = start.with_right }
-      | inr with ↦ record { l = l; on_left = last lefts l; with_right = with }
-    ]),
-    (λ start. (adds spots).1 (elim (push-cases lefts l start.l start.on_left) [
-      | inl before ↦ inl ((are spots).1 (record { l = start.l; on_left = before; with_right = start.with_right }))
-      | inr is ↦ inr (subst (λ (t : ClassTriple). IsStartWith s a b c t rights spots) (sym is) start.with_right)
-    ])),
-  )
+  pub classes-whole : (pairs : List PairLine) (i : ℕ) (set : List ClassTriple) → length pairs ≤ i →
+      AreClassesOf is_right s child a b c (take i pairs) set → AreClassesOf is_right s child a b c pairs set
+  classes-whole pairs i set all are = subst (λ (ls : List PairLine). AreClassesOf is_right s child a b c ls set) (take_all i pairs all) are
 
 -- ---- all together
 
 module _ (g : Spaces) (d : Diagrams) (a b c : Table) (lines : List PairLine) (s : ℕ) (lefts rights : List ClassTriple)
     (starts : List (List Spot)) (lists : List (List ℕ))
     (in_left : AreClassesOf false s (left g s) a b c lines lefts) (in_right : AreClassesOf true s (right g s) a b c lines rights)
-    (started : AreStarts s a b c lefts rights starts) where
+    (started : AreLedBy (spots_of s a b c) lefts rights starts) where
   -- what two lines lead to on a label
   abbrev led : PairLine → PairLine → Label → List ℕ
   led l r label = states_at d 0 (spots_of s a b c (classes_of false s a b c l) (classes_of true s a b c r)) label
@@ -156,7 +117,7 @@ module _ (g : Spaces) (d : Diagrams) (a b c : Table) (lines : List PairLine) (s 
   all-along come go p q x p' q' y label from_left from_right =
       let l = line-of lines (left g s) p q x from_left in
       let r = line-of lines (right g s) p' q' y from_right in
-      let start : IsStart s a b c lefts rights (spots_of s a b c (classes_of false s a b c l.line) (classes_of true s a b c r.line)) = record {
+      let start : IsLedBy (spots_of s a b c) lefts rights (spots_of s a b c (classes_of false s a b c l.line) (classes_of true s a b c r.line)) = record {
         l = classes_of false s a b c l.line;
         on_left = (in_left (classes_of false s a b c l.line)).1 (record { pair = l.line; listed = l.listed; in_space = l.in_space; classes = refl });
         with_right = record {

@@ -1,3 +1,4 @@
 pub mod Automata
 pub mod PairKeys
 pub mod Pairs
+pub mod Starts

@@ -33,21 +33,6 @@ pub record HasClasses (is_right : Bool) (s child : ℕ) (a b c : Table) (pairs :
 abbrev pub AreClassesOf : Bool → ℕ → ℕ → Table → Table → Table → List PairLine → List ClassTriple → Type 0
 AreClassesOf is_right s child a b c pairs set = (triple : ClassTriple) → Contains set triple ↔ HasClasses is_right s child a b c pairs triple
 
--- the triple on the left and one of those on the right lead to these spots
-pub record IsStartWith (s : ℕ) (a b c : Table) (l : ClassTriple) (rights : List ClassTriple) (spots : List Spot) : Type 0 where
-  pub r : ClassTriple
-  pub on_right : Contains rights r
-  pub leads : spots_of s a b c l r ≡ spots
-
--- a triple of each side lead to these spots
-pub record IsStart (s : ℕ) (a b c : Table) (lefts rights : List ClassTriple) (spots : List Spot) : Type 0 where
-  pub l : ClassTriple
-  pub on_left : Contains lefts l
-  pub with_right : IsStartWith s a b c l rights spots
-
-abbrev pub AreStarts : ℕ → Table → Table → Table → List ClassTriple → List ClassTriple → List (List Spot) → Type 0
-AreStarts s a b c lefts rights starts = (spots : List Spot) → Contains starts spots ↔ IsStart s a b c lefts rights spots
-
 -- the list has three states, and the first two go to the third
 abbrev pub Goes : List NamedPair → ℕ → List ℕ → Type 0
 Goes table s [] = ⊥

@@ -6,7 +6,8 @@ ghost use Rattle.cert_nodes.specs.declared.spots.Diagrams.{Diagrams};
 ghost use Rattle.cert_nodes.specs.Spots.{AreDrawn};
 ghost use Rattle.cert_tables.specs.Automata.{table_automaton};
 ghost use Rattle.cert_tables.specs.PairKeys.{named_pair};
-ghost use Rattle.cert_tables.specs.Pairs.{spots_of, IsStartWith, AreStarts, Goes, AllGo, GoAlong, StartsTogether};
+ghost use Rattle.cert_tables.specs.Pairs.{spots_of, Goes, AllGo, GoAlong, StartsTogether};
+ghost use Rattle.cert_tables.specs.Starts.{IsLedWith, AreLedBy};
 
 use crate::class_triples::{ClassTriple, triples};
 use crate::pair_table::PairTable;
@@ -46,7 +47,7 @@ fn add_starts(
     starts: &mut SpotListSet,
 ) -> Result<(), AllocError>
     ensures { OnOk result ((spots : List Spot) → Contains starts.new spots ↔
-        (Contains starts.old spots ⊎ IsStartWith space a.now b.now c.now left rights.now spots)) }
+        (Contains starts.old spots ⊎ IsLedWith (spots_of space a.now b.now c.now) left rights.now spots)) }
 {
     for right in rights {
         starts.insert(spots(alloc, space, a, b, c, left, *right)?)?;
@@ -64,7 +65,7 @@ fn starts(
     lefts: &[ClassTriple],
     rights: &[ClassTriple],
 ) -> Result<SpotListSet, AllocError>
-    ensures { IfOk result (AreStarts space a.now b.now c.now lefts.now rights.now) }
+    ensures { IfOk result (AreLedBy (spots_of space a.now b.now c.now) lefts.now rights.now) }
 {
     let mut starts = SpotListSet::new(alloc);
     for left in lefts {
