@@ -156,7 +156,10 @@ pub no-state : (lines : List PairLine) (s p q : ℕ) →
     (x : ℕ) → GoesTo (map named_pair lines) s p q x → ⊥
 no-state lines s p q none x goes =
     let l = line-of lines s p q x goes in
-    none l.line (record { listed = l.listed; keyed = keys-same (key_of l.line) (record { space = s; first = p; second = q }) l.in_space l.is_first l.is_second })
+    none l.line (record {
+      listed = l.listed;
+      keyed = keys-same (key_of l.line) (record { space = s; first = p; second = q }) l.in_space l.is_first l.is_second;
+    })
 
 -- no pair goes to two states
 pub goes-once : (lines : List PairLine) (s p q x y : ℕ) → IsOnePerKey lines →

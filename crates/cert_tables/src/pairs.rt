@@ -12,7 +12,7 @@ ghost use Rattle.cert_tables.specs.Starts.{IsLedWith, AreLedBy};
 use crate::class_triples::{ClassTriple, triples};
 use crate::pair_table::PairTable;
 use crate::table::{Table, initial, spot};
-use cert_nodes::{Diagrams, SpotListSet, StateList, led_to};
+use cert_nodes::{Diagrams, Spot, SpotListSet, StateList, led_to};
 use std::alloc::{AllocError, Global};
 use ws2s_core::Guide;
 
