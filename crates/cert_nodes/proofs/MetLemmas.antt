@@ -1,6 +1,6 @@
 -- Lists of spots that are kept once: equal ones are one, and what is put in is there.
 use Rattle.std.proofs.Common.{◌≡◌, ℕ, Bool, true, false, if◌then◌else◌, List, [], ◌∷◌, ◌++◌, map, Contains, Option, Some, None}
-use Rattle.std.proofs.Common.{refl, ap, sym, ◌∙◌, subst, inl, inr, eqb, eqb-true}
+use Rattle.std.proofs.Common.{refl, ap, sym, ◌∙◌, subst, inl, inr, eqb-true}
 use Rattle.std.specs.Prelude.{◌&&◌, ◌||◌, IsTrue}
 use Rattle.std.specs.List.{list_any}
 use Rattle.std.specs.Option.{option_eq}

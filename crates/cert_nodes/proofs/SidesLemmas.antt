@@ -1,5 +1,5 @@
 -- Sides of spots, one and many: what they lead to, and that they stand lower.
-use Rattle.std.proofs.Common.{◌≡◌, ℕ, zero, suc, ◌+◌, ◌<◌, ◌≤◌, Bool, true, false, if◌then◌else◌, List, [], ◌∷◌, map, Contains}
+use Rattle.std.proofs.Common.{◌≡◌, ℕ, ◌+◌, ◌<◌, ◌≤◌, Bool, true, false, if◌then◌else◌, List, [], ◌∷◌, Contains}
 use Rattle.std.proofs.Common.{Option, Some, None, refl, ap, sym, ◌∙◌, subst, inl, inr, arith, eqb, eqb-true, eq-eqb}
 use Rattle.std.proofs.lemmas.Bool.{cases_Bool}
 use Rattle.labels.specs.Labels.{Label}
@@ -9,7 +9,7 @@ use Rattle.cert_text.specs.declared.line.NodeLine.{NodeLine}
 use Rattle.cert_nodes.specs.declared.spots.Spot.{Spot}
 use Rattle.cert_nodes.specs.declared.spots.Diagrams.{Diagrams}
 use Rattle.cert_nodes.specs.Nodes.{state_on, functions_of, AreNodes}
-use Rattle.cert_nodes.specs.Spots.{nodes_of, label_for, state_at, states_at, node_of, leaf_of, bit_for, side_by, side_at, track_by, track_at}
+use Rattle.cert_nodes.specs.Spots.{nodes_of, label_for, state_at, states_at, node_of, leaf_of, bit_for, side_by, track_by, track_at}
 use Rattle.cert_nodes.specs.Spots.{IsFirstOf}
 use Rattle.cert_nodes.specs.Walks.{leaves_of, sides_of}
 use Rattle.cert_nodes.proofs.StatesLemmas.{leaf-state, node-state, rank, node-falls}

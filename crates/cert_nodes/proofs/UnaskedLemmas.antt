@@ -1,6 +1,6 @@
 -- What doesn't depend on a track: targets that ask later tracks alone, and so the sides under the first track.
-use Rattle.std.proofs.Common.{◌≡◌, ◌≢◌, ℕ, zero, suc, ◌<◌, ◌≤◌, Bool, true, false, if◌then◌else◌, List, [], ◌∷◌, map, take, Contains}
-use Rattle.std.proofs.Common.{Option, Some, None, slice_get, refl, ap, sym, ◌∙◌, subst, inl, inr, arith, eqb, eqb-true, eq-eqb, nat_lt, IsTrue}
+use Rattle.std.proofs.Common.{◌≡◌, ◌≢◌, ℕ, zero, suc, ◌<◌, ◌≤◌, Bool, true, false, if◌then◌else◌, List, [], ◌∷◌, Contains}
+use Rattle.std.proofs.Common.{Option, Some, None, refl, ap, sym, ◌∙◌, subst, inl, inr, arith, eqb, eqb-true, eq-eqb}
 use Rattle.std.proofs.lemmas.Bool.{cases_Bool, eqb-false}
 use Rattle.labels.specs.Labels.{Label, with_track}
 use Rattle.gta_theory.proofs.ListsLemmas.{Contains-first, Contains-later}
@@ -9,8 +9,8 @@ use Rattle.cert_text.specs.declared.line.Target.TheVariants as target
 use Rattle.cert_text.specs.declared.line.NodeLine.{NodeLine}
 use Rattle.cert_nodes.specs.declared.spots.Spot.{Spot}
 use Rattle.cert_nodes.specs.declared.spots.Diagrams.{Diagrams}
-use Rattle.cert_nodes.specs.Nodes.{state_on, functions_of, node_at, IsThere, asks_after, is_under, AreNodes}
-use Rattle.cert_nodes.specs.Spots.{nodes_of, label_for, state_at, states_at, node_of, leaf_of, bit_for, side_by, side_at, track_by, track_at}
+use Rattle.cert_nodes.specs.Nodes.{state_on, functions_of, AreNodes}
+use Rattle.cert_nodes.specs.Spots.{nodes_of, label_for, state_at, states_at, node_of, bit_for, side_by, side_at, track_by, track_at}
 use Rattle.cert_nodes.specs.Spots.{AsksFirst}
 use Rattle.cert_nodes.specs.Walks.{sides_of}
 use Rattle.cert_nodes.proofs.StatesLemmas.{leaf-state, node-state, rank, node-falls, AsksAfter, sides-later}

@@ -1,5 +1,5 @@
 -- What a walk has come to when it has looked at all that it met.
-use Rattle.std.proofs.Common.{◌≡◌, ◌⊎◌, ℕ, zero, suc, ◌+◌, ◌<◌, ◌≤◌, Bool, true, false, List, [], ◌∷◌, ◌++◌, length, Contains, Option, Some, None}
+use Rattle.std.proofs.Common.{◌≡◌, ◌⊎◌, ℕ, zero, suc, ◌+◌, ◌<◌, ◌≤◌, true, false, List, [], ◌∷◌, ◌++◌, length, Contains, Option, Some, None}
 use Rattle.std.proofs.Common.{slice_get, get_or, refl, ap, sym, ◌∙◌, subst, inl, inr, arith, min, take}
 use Rattle.std.proofs.lemmas.Bool.{cases_Bool, cases_lt}
 use Rattle.std.proofs.lemmas.Option.{slice_get_within, slice_get-get_or, get_or_from_slice_get}
@@ -10,8 +10,7 @@ use Rattle.gta_theory.proofs.ListedLemmas.{slice_get-front}
 use Rattle.gta_theory.proofs.ListsLemmas.{Contains-first, Contains-cases, Contains-none}
 use Rattle.cert_nodes.specs.declared.spots.Spot.{Spot}
 use Rattle.cert_nodes.specs.declared.spots.Diagrams.{Diagrams}
-use Rattle.cert_nodes.specs.declared.walk.Step.{Step}
-use Rattle.cert_nodes.specs.declared.walk.Step.TheVariants.{Leaf, Split}
+use Rattle.cert_nodes.specs.declared.walk.Step.TheVariants.{Leaf}
 use Rattle.cert_nodes.specs.Nodes.{AreNodes}
 use Rattle.cert_nodes.specs.Spots.{states_at, track_at, earlier_of, IsLedTo, IsFirstOf, AsksFirst}
 use Rattle.cert_nodes.specs.Walks.{AddsAtMost, leaves_of, sides_of, IsStepFrom, SplitsAt, IsWalked, WalksFrom}
@@ -200,11 +199,14 @@ pub walks-leaf : (d : Diagrams) (dropped : ℕ) (starts met : List (List Spot)) 
     IsStepFrom d dropped spots (Leaf states) → lists' ≡ lists ++ states ∷ [] → WalksFrom d dropped starts met lists' (place + 1)
 walks-leaf d dropped starts met lists lists' place spots states walks at step is =
     walks-on d dropped starts met met lists lists' place spots walks at (Grows-same met met refl) (Grows-push lists lists' states is)
-    (inl (step.0, subst (λ (ls : List (List ℕ)). Contains ls (leaves_of spots)) (sym is)
-    (subst (Contains (lists ++ states ∷ [])) step.1 (last lists states))))
+    (inl (
+      step.0,
+      subst (λ (ls : List (List ℕ)). Contains ls (leaves_of spots)) (sym is)
+          (subst (Contains (lists ++ states ∷ [])) step.1 (last lists states)),
+    ))
     walks.came
     (λ other listed. elim (push-cases lists states other (subst (λ (ls : List (List ℕ)). Contains ls other) is listed))
-        as (λ _. IsLedTo d dropped starts other) [
+    as (λ _. IsLedTo d dropped starts other) [
       | inl old ↦ walks.led other old
       | inr new ↦ subst (IsLedTo d dropped starts) (leaves-states d dropped empty_label spots step.0 ∙ sym step.1 ∙ new)
           (walks.came spots empty_label (Contains-at met place spots at))

@@ -1,5 +1,5 @@
 -- A walk down from lists of spots: which lists of spots it has met, and which lists of states it has come to.
-use Rattle.std.specs.Prelude.{◌≡◌, ◌⊎◌, ℕ, ◌<◌, Bool, true, false, List, [], ◌∷◌, ◌++◌, map, length, slice_get, Contains, Option, Some, None}
+use Rattle.std.specs.Prelude.{◌≡◌, ◌⊎◌, ℕ, ◌<◌, Bool, true, false, List, [], ◌∷◌, ◌++◌, map, slice_get, Contains, Some, None}
 use Rattle.labels.specs.Labels.{Label}
 use Rattle.cert_nodes.specs.declared.spots.Spot.{Spot}
 use Rattle.cert_nodes.specs.declared.spots.Diagrams.{Diagrams}
@@ -35,7 +35,7 @@ abbrev pub IsWalked : Diagrams → ℕ → List (List Spot) → List (List ℕ) 
 IsWalked d dropped met lists spots =
     (IsFirstOf d spots None × Contains lists (leaves_of spots))
     ⊎ ((track : ℕ) × IsFirstOf d spots (Some track) × Contains met (sides_of d dropped track false spots)
-        × Contains met (sides_of d dropped track true spots))
+    × Contains met (sides_of d dropped track true spots))
 
 -- the walk from the starts has met these lists, which lead to nothing else, has looked at those before a place, and has come
 -- to these states

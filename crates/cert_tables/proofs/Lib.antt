@@ -1,5 +1,0 @@
-pub mod EveryLemmas
-pub mod PairKeysLemmas
-pub mod StartsLemmas
-pub mod PairsLemmas
-pub mod ConjunctionsLemmas

@@ -1,4 +1,0 @@
-pub mod Automata
-pub mod PairKeys
-pub mod Pairs
-pub mod Starts
