@@ -3,3 +3,7 @@ pub mod PairKeysLemmas
 pub mod StartsLemmas
 pub mod PairsLemmas
 pub mod ConjunctionsLemmas
+pub mod KeptLemmas
+pub mod RisingLemmas
+pub mod SetKeysLemmas
+pub mod SetsLemmas

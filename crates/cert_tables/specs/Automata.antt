@@ -1,11 +1,13 @@
 -- What tables say of automata: a space, a class or a target that isn't there counts as 0.
-use Rattle.std.specs.Prelude.{◌≡◌, ℕ, Bool, true, false, not, List, [], Option, Some, None, slice_get, slice_index, unwrap_or, if◌then◌else◌}
+use Rattle.std.specs.Prelude.{◌≡◌, ℕ, Bool, true, false, not, List, [], ◌++◌, Option, Some, None, slice_get, slice_index, unwrap_or, if◌then◌else◌}
 use Rattle.labels.specs.Labels.{Label}
 use Rattle.gta_theory.specs.Automata.{Automaton}
+use Rattle.cert_text.specs.declared.line.NodeLine.{NodeLine}
 use Rattle.cert_text.specs.declared.line.Target.{Target}
 use Rattle.cert_text.specs.declared.line.Target.TheVariants as target
 use Rattle.cert_nodes.specs.declared.spots.Spot.{Spot}
 use Rattle.cert_nodes.specs.declared.spots.Diagrams.{Diagrams}
+use Rattle.cert_nodes.specs.Nodes.{IsThere}
 use Rattle.cert_nodes.specs.Spots.{state_at}
 use Rattle.cert_tables.specs.declared.table.SpaceTable.{SpaceTable}
 use Rattle.cert_tables.specs.declared.table.Table.{Table}
@@ -61,3 +63,14 @@ signed is_negated A = record {
 
 abbrev pub accepts_signed : Table → Bool → ℕ → Bool
 accepts_signed table is_negated q = if is_negated then not (accepts_in table q) else accepts_in table q
+
+-- ---- nodes that come
+
+-- each target of the table is a state, or one of the nodes
+pub record AreThere (d : Diagrams) (table : Table) : Type 0 where
+  pub there : (s c k : ℕ) (space : SpaceTable) (row : List Target) (t : Target) → slice_get table.spaces s ≡ Some space →
+      slice_get space.roots c ≡ Some row → slice_get row k ≡ Some t → IsThere (if table.in_atoms then d.atoms else d.told) t
+
+-- with more nodes of the section behind the others
+abbrev pub told_more : Diagrams → List NodeLine → Diagrams
+told_more d more = record { atoms = d.atoms; told = d.told ++ more }

@@ -2,13 +2,21 @@
 //! a table is, `specs/Pairs.antt` how pairs go along with steps.
 #![tactic(auto)]
 
+mod class_sets;
 mod class_triples;
 mod conjunctions;
+mod laws;
+mod members;
 mod pair_table;
 mod pairs;
+mod set_table;
+mod sets;
 mod table;
 
 pub use conjunctions::lead_to_conjunction;
+pub use laws::tables_keep_their_automata;
 pub use pair_table::PairTable;
 pub use pairs::{go_along, start_together};
+pub use set_table::SetTable;
+pub use sets::sets_go_along;
 pub use table::{SpaceTable, Table, TargetList, accepts, initial};
