@@ -18,8 +18,10 @@ sys.path.insert(0, str(HERE))
 from palec_parts import grammar, running  # noqa: E402
 from palec_parts.command import main  # noqa: E402
 from palec_parts.drawing import as_dot  # noqa: E402
-from palec_parts.reports import read_report  # noqa: E402
+from palec_parts.judging import request  # noqa: E402
+from palec_parts.reports import read_report, store_text  # noqa: E402
 from palec_parts.sources import Source  # noqa: E402
+from palec_parts.tracing import after, read_trace  # noqa: E402
 
 EXAMPLES = running.TOP / "examples"
 
@@ -30,6 +32,25 @@ def told(*words):
     with redirect_stdout(out), redirect_stderr(errors):
         status = main([str(word) for word in words])
     return status, out.getvalue() + errors.getvalue()
+
+
+KINDS = {"object": dict, "array": list, "string": str, "boolean": bool, "integer": int, "null": type(None)}
+
+
+def faults(schema, value, where="it"):
+    """What a value has against a schema, by the words of JSON Schema that docs/palec.schema.json uses."""
+    kinds = schema.get("type", [])
+    if kinds and not any(type(value) is KINDS[it] for it in ([kinds] if isinstance(kinds, str) else kinds)):
+        return [f"{where} is a {type(value).__name__}"]
+    found = [f"{where} is {value!r}"] if value not in schema.get("enum", [value]) or isinstance(value, int) and value < schema.get("minimum", value) else []
+    if isinstance(value, list):
+        found += [fault for at, it in enumerate(value) for fault in faults(schema.get("items", {}), it, f"{where}[{at}]")]
+    if isinstance(value, dict):
+        parts, others = schema.get("properties", {}), schema.get("additionalProperties", {})
+        found += [f"{where} has no {it}" for it in schema.get("required", []) if it not in value]
+        found += [f"{where} has {it}" for it in value if it not in parts and others is False]
+        found += [fault for name, it in value.items() for fault in faults(parts.get(name, others or {}), it, f"{where}.{name}")]
+    return found
 
 
 class Texts(unittest.TestCase):
@@ -76,6 +97,10 @@ class Calls(unittest.TestCase):
 
     def test_formats_for_machines_are_well_formed(self):
         path = HERE / "mistakes" / "lost_cell.pale"
+        schema = json.loads((running.TOP / "docs" / "palec.schema.json").read_text())
+        for name in ("lost_cell", "ambiguous_field", "arrow", "met_by_none", "half_of_post"):
+            _, lines = told("check", path.with_name(f"{name}.pale"), "--format", "json")
+            self.assertEqual([it for line in lines.splitlines() for it in faults(schema, json.loads(line))], [], name)
         log = json.loads(told("check", path, "--format", "sarif")[1])
         driver, result = log["runs"][0]["tool"]["driver"], log["runs"][0]["results"][0]
         place = result["locations"][0]["physicalLocation"]
@@ -102,6 +127,33 @@ class Calls(unittest.TestCase):
                 self.assertNotIn("Traceback", told("check", Path(room) / name)[1])
             self.assertEqual(told("check", Path(room) / "none")[0], 2)
 
+    def test_a_page_holds_no_word_of_the_text_as_markup(self):
+        with tempfile.TemporaryDirectory() as room:
+            path = Path(room) / "<script>x.pale"
+            path.write_text("# </script><script>alert(1)</script>\n" + (HERE / "mistakes" / "lost_cell.pale").read_text())
+            self.assertEqual(told("report", path, "-o", Path(room) / "out.html")[0], 1)
+            page = (Path(room) / "out.html").read_text()
+        self.assertEqual((page.count("<script"), page.count("</script>")), (2, 2))
+        self.assertIn("&lt;script&gt;alert(1)", page)
+
+    def test_the_steps_of_a_mistake_are_explained(self):
+        status, output = told("explain", HERE / "mistakes" / "back_pointer.pale")
+        self.assertEqual(status, 1)
+        for piece in ("step 1, line 3: y = new Dbl;", "cell 2 is made, of type Dbl", "step 3, line 4: y.next = x;", "2     Dbl   1*    null", "then, line 5: }"):
+            self.assertIn(piece, output)
+
+    def test_the_heaps_that_are_shown_come_to_the_store_that_pale_writes(self):
+        caller = running.Caller(running.find_pale())
+        for path in sorted([*(HERE / "mistakes").glob("*.pale"), *EXAMPLES.glob("mistakes/*.pale")]):
+            source = Source(path)
+            for finding in read_report(caller.call("check", source.data).output):
+                if finding.verdict == "invalid":
+                    trace = read_trace(caller.call("trace", request(source, f"triple {finding.number}") + store_text(finding.store).encode()).output)
+                    self.assertEqual((trace.cause, trace.at), (finding.cause, finding.at), path)
+                    shown = finding.store
+                    for step in trace.steps:
+                        shown = after(shown, step, source.fields_of).store
+                    self.assertEqual(store_text(shown), store_text(trace.store), path)
 
     def test_a_job_runner_of_the_distribution_runs_the_jobs(self):
         runner = shutil.which("parallel")

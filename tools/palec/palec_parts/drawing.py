@@ -3,6 +3,10 @@ import shutil
 import subprocess
 
 
+# A picture that takes Graphviz longer is left out.
+MOST_SECONDS = 20
+
+
 def quoted(text):
     return '"' + text.replace("\\", "\\\\").replace('"', '\\"') + '"'
 
@@ -13,27 +17,43 @@ def pointer_fields(source):
     return {tokens[at + 1].text for at in range(len(tokens) - 2) if tokens[at].text == "pointer" and tokens[at + 2].text == ":"}
 
 
-def as_dot(store, dashed, title=""):
+def as_dot(store, dashed, title="", changed=frozenset()):
+    """The store's text for Graphviz; what is in `changed` (variables by name, cells by number, fields by both) is red."""
+    red = lambda key: ", color=red, fontcolor=red" if key in changed else ""
     lines = ["digraph store {", '  rankdir=LR; node [shape=box, fontname="Helvetica"]; edge [fontname="Helvetica"];']
     if title:
         lines.append(f"  label={quoted(title)}; labelloc=t;")
     cells = {it.number for it in store.cells}
     for cell in store.cells:
         truths = [f"{name}={value}" for name, value in cell.values if value in ("true", "false")]
-        lines.append(f"  c{cell.number} [label={quoted(' '.join([f'{cell.number}: {cell.type}', *truths]))}];")
+        is_changed = cell.number in changed or any((cell.number, name) in changed for name, value in cell.values if value in ("true", "false"))
+        lines.append(f"  c{cell.number} [label={quoted(' '.join([f'{cell.number}: {cell.type}', *truths]))}{', color=red, fontcolor=red' if is_changed else ''}];")
         for name, value in cell.values:
             if value.isdigit():
                 style = "dashed" if name in dashed else "solid"
                 target = f"c{value}" if int(value) in cells else f"gone{value}"
                 if int(value) not in cells:
                     lines.append(f"  gone{value} [label={quoted(value + ' (freed)')}, style=dotted];")
-                lines.append(f"  c{cell.number} -> {target} [label={quoted(name)}, style={style}];")
+                lines.append(f"  c{cell.number} -> {target} [label={quoted(name)}, style={style}{red((cell.number, name))}];")
     for place, (name, value) in enumerate(store.variables):
         targets = [value] if value.isdigit() else value.strip("{}").split() if value.startswith("{") else []
         shown = f"{name} = {value}" if not targets or value.startswith("{") else name
-        lines.append(f"  v{place} [label={quoted(shown)}, shape=plaintext];")
-        lines += [f"  v{place} -> c{it} [arrowhead=vee, color=gray40];" for it in targets if int(it) in cells]
+        lines.append(f"  v{place} [label={quoted(shown)}, shape=plaintext{red(name)}];")
+        lines += [f"  v{place} -> c{it} [arrowhead=vee{red(name) or ', color=gray40'}];" for it in targets if int(it) in cells]
     return "\n".join([*lines, "}"]) + "\n"
+
+
+def as_svg(dot):
+    """The picture as an element of a page, or nothing where Graphviz isn't there."""
+    program = shutil.which("dot")
+    if not program:
+        return ""
+    try:
+        made = subprocess.run([program, "-Tsvg"], input=dot.encode(), stdout=subprocess.PIPE, stderr=subprocess.DEVNULL, timeout=MOST_SECONDS)
+    except subprocess.TimeoutExpired:
+        return ""
+    text = made.stdout.decode("utf-8", "replace")
+    return text[text.find("<svg"):] if made.returncode == 0 and "<svg" in text else ""
 
 
 def draw(dot, path):

@@ -1,22 +1,70 @@
-"""What is known of an invalid triple beyond its report: the parts of an assertion that are false where it fails."""
+"""How an invalid triple fails: its steps with the heap after each, and the parts of an assertion that are false there."""
 from dataclasses import dataclass, field
 
 from .conjuncts import false_parts
+from .hints import CAUSES
+from .judging import request
+from .reports import store_text
+from .tables import store_lines
+from .tracing import heaps, read_trace
+
+# In a diagnosis stand so many steps at most: the first ones and the last ones.
+MOST_STEPS = 12
 
 
 @dataclass
 class Explained:
-    """The conjuncts that are false where the triple fails."""
+    """The trace of a triple from its store, the heap at the start and after each step, and what is false where it fails."""
 
+    trace: object = None
+    heaps: list = field(default_factory=list)
     parts: list = field(default_factory=list)
 
 
 def explain(caller, source, finding):
-    """What is known of an invalid triple beyond its report."""
-    if finding.store is None or source.has_cut_line():
+    """What is known of an invalid triple beyond its report; without a trace where pale writes none."""
+    if finding.store is None or source.is_one_piece():
         return Explained()
-    return Explained(false_parts(caller, source, finding))
+    answer = caller.call("trace", request(source, f"triple {finding.number}") + store_text(finding.store).encode())
+    trace = read_trace(answer.output) if answer.status == 1 and not answer.cut else None
+    return Explained(trace, heaps(source, finding.store, trace) if trace else [], false_parts(caller, source, finding))
+
+
+def sentence(step):
+    """What a step did, in words."""
+    return {
+        "assign": f"{step.place} = {step.value}",
+        "new": f"cell {step.place} is made, of type {step.value}",
+        "free": f"cell {step.place} is freed",
+        "truth": f"it is {step.value}",
+        "cut": "a cut is passed: what has to hold here holds",
+        "call": f"{step.place} is called",
+        "return": f"{step.place} returns",
+    }[step.kind]
+
+
+def step_lines(trace):
+    """One line for each step, as many as a diagnosis shows."""
+    lines = [f"line {step.line}: {sentence(step)}" for step in trace.steps]
+    if len(lines) > MOST_STEPS:
+        left = len(lines) - MOST_STEPS + 1
+        lines = [*lines[: MOST_STEPS // 2], f".. {left} more steps ..", *lines[len(lines) - MOST_STEPS // 2 + 1:]]
+    return lines
 
 
 def part_lines(source, parts):
     return [f"of the {part.what} this is false: {part.text(source)}" for part in parts]
+
+
+def heap_lines(heap):
+    return [f"      {line}" for line in store_lines(heap.store, heap.changed)]
+
+
+def walk_lines(source, told):
+    """The trace step by step, each with its line of the text and, where it changed something, the heap after it; and where it fails."""
+    yield from ["", "at the start", *heap_lines(told.heaps[0])]
+    for number, (step, heap) in enumerate(zip(told.trace.steps, told.heaps[1:]), 1):
+        yield from ["", f"step {number}, line {step.line}: {source.line(step.line).strip()}", f"   -> {sentence(step)}"]
+        yield from heap_lines(heap) if heap.changed else []
+    why = CAUSES.get(told.trace.cause, ("it fails", ""))[0]
+    yield from ["", f"then, line {told.trace.at}: {source.line(told.trace.at).strip()}", f"   -> {why}", *(f"      {it}" for it in part_lines(source, told.parts)), ""]

@@ -1,8 +1,9 @@
 """The findings for machines: JSON, SARIF 2.1.0, and the commands of a GitHub workflow."""
 import json
+from urllib.parse import quote
 
 from .hints import CAUSES, refusal_sentence
-from .telling import KEYWORDS
+from .telling import KEYWORDS, no_answer
 
 
 def place_of(told, finding):
@@ -22,14 +23,15 @@ def is_fault(finding):
     return finding.kind == "refused" or finding.verdict in ("invalid", "ambiguous", "limit", "no answer")
 
 
-def sentence_of(finding):
+def sentence_of(told, finding):
     if finding.kind == "refused":
-        return refusal_sentence(finding)
+        return refusal_sentence(told.source, finding)
     if finding.kind == "field":
         return f"the field {finding.procedure} is ambiguous" if finding.verdict == "ambiguous" else f"the field {finding.procedure} met the limit"
     if finding.verdict == "invalid":
         return f"triple {finding.number} of {finding.procedure} can fail: {CAUSES.get(finding.cause, ('it fails', ''))[0]}"
-    return f"triple {finding.number}: {finding.verdict}"
+    name = f"triple {finding.number}" if finding.kind == "triple" else "the file"
+    return f"{name} {no_answer(finding)}" if finding.verdict == "no answer" else f"{name}: {finding.verdict}"
 
 
 def store_of(store):
@@ -37,6 +39,13 @@ def store_of(store):
         return None
     cells = [{"number": it.number, "type": it.type, "fields": dict(it.values)} for it in store.cells]
     return {"variables": dict(store.variables), "cells": cells}
+
+
+def steps_of(explained):
+    """The steps of an execution, or null where there is none."""
+    if explained is None or explained.trace is None:
+        return None
+    return [{"line": it.line, "kind": it.kind, "place": it.place or None, "value": it.value or None} for it in explained.trace.steps]
 
 
 def entries(all_told):
@@ -51,9 +60,9 @@ def entries(all_told):
             yield {
                 "file": told.source.path, "kind": finding.kind, "line": line, "column": column, "verdict": finding.verdict or finding.kind,
                 "cause": finding.cause or finding.word or None, "triple": finding.number or None, "name": finding.procedure or None,
-                "starts": finding.line if finding.kind == "triple" else None, "met": finding.number not in told.unmet if finding.kind == "triple" else None,
-                "message": "; ".join([sentence_of(finding), *(f"this is false: {it}" for it in parts)]), "store": store_of(finding.store),
-                "false": parts,
+                "starts": finding.line or None if finding.kind == "triple" else None, "met": finding.number not in told.unmet if told.is_met_known and finding.kind == "triple" else None,
+                "message": "; ".join([sentence_of(told, finding), *(f"this is false: {it}" for it in parts)]), "store": store_of(finding.store),
+                "steps": steps_of(explained), "false": parts,
             }
 
 
@@ -77,7 +86,7 @@ def as_sarif(all_told, version):
         results.append({
             "ruleId": rule, "level": "warning" if unmet or entry["verdict"] in ("limit", "no answer") else "error",
             "message": {"text": "no store meets the triple" if unmet else entry["message"]},
-            "locations": [{"physicalLocation": {"artifactLocation": {"uri": entry["file"]}, "region": region}}],
+            "locations": [{"physicalLocation": {"artifactLocation": {"uri": quote(entry["file"])}, "region": region}}],
         })
     tool = {"driver": {"name": "palec", "version": version, "rules": list(rules.values())}}
     schema = "https://json.schemastore.org/sarif-2.1.0.json"

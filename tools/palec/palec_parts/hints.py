@@ -5,13 +5,13 @@ from .grammar import expected_at, reserved_words
 
 REFUSALS = {
     "char": "no token begins with this byte",
-    "syntax": "this can't stand here",
+    "syntax": "{} can't stand here",
     "deep": "more than 200 levels are open here",
     "too-long": "the text has more than 1,048,576 bytes",
-    "duplicate": "this name is there already",
-    "unknown": "nothing of this name is known here",
-    "kind": "this is of another kind than its place wants",
-    "type": "this is of another type than its place wants",
+    "duplicate": "the name {} is there already",
+    "unknown": "nothing of the name {} is known here",
+    "kind": "{} is of another kind than its place wants",
+    "type": "{} is of another type than its place wants",
     "arity": "these are more, or fewer, than the declaration has",
     "many-types": "a program has at most so many types",
     "many-fields": "a type has at most so many fields",
@@ -211,8 +211,13 @@ MORE = {
 }
 
 
-def refusal_sentence(finding):
-    return REFUSALS.get(finding.word, f"refused as `{finding.word}`")
+def refusal_sentence(source, finding):
+    """What is wrong, with the word that was found."""
+    found = source.token_at(finding.line, finding.column)
+    if found and found.kind == "end" and finding.word == "syntax":
+        return "the text can't end here"
+    name = f"`{found.text}`" if found and found.kind in ("name", "number", "mark") else "this"
+    return REFUSALS.get(finding.word, f"refused as `{finding.word}`").format(name)
 
 
 def refusal_help(source, finding):

@@ -10,11 +10,12 @@ ENDED = {5: "want of memory", 6: "the text couldn't be read", 7: "the output cou
 
 @dataclass
 class Told:
-    """What was told of a file, in order, and the triples that no store meets by number."""
+    """What was told of a file, in order; by number the triples that no store meets, where that was looked for, and what more is known of invalid ones."""
 
     source: Source
     findings: list = field(default_factory=list)
     unmet: set = field(default_factory=set)
+    is_met_known: bool = False
     explained: dict = field(default_factory=dict)
     warnings: list = field(default_factory=list)
 
@@ -25,77 +26,108 @@ def request(source, line):
     return source.data + newline + b"---\n" + line.encode() + b"\n"
 
 
-def unanswered(answer, number=0):
+def unanswered(caller, answer, number=0):
     """The finding for a call without an answer."""
     word = {"time": "time", "stopped": "stopped"}.get(answer.cut) or ENDED.get(answer.status) or f"ended with status {answer.status}"
-    return Finding("triple" if number else "other", number=number, verdict="no answer", word=word)
+    return Finding("triple" if number else "other", number=number, verdict="no answer", word=word, seconds=caller.seconds or 0)
+
+
+def is_answer(answer):
+    return not answer.cut and answer.status in (0, 1, 3, 4)
 
 
 def fields_of(caller, source):
     """The findings of the fields or of a refusal; none where every pointer field is functional."""
-    answer = caller.call("judge", request(source, "fields"), label="the fields")
-    if answer.cut or answer.status not in (0, 1, 3, 4):
-        return [unanswered(answer)]
-    return read_report(answer.output)
+    answer = caller.call("judge", request(source, "fields"), label=f"{source.name} the fields")
+    return read_report(answer.output) if is_answer(answer) else [unanswered(caller, answer)]
+
+
+def is_there(caller, source, number):
+    """Whether there is a triple of that number, by a request of two lines: the second one is refused where the first isn't, and nothing is judged."""
+    return caller.call("judge", request(source, f"triple {number}\ntriple {number}")).output.startswith("request refused 2")
 
 
 def triple_of(caller, source, number):
     """The finding of one triple, or None where there is no triple of that number."""
-    answer = caller.call("judge", request(source, f"triple {number}"), label=f"triple {number}")
-    if answer.cut or answer.status not in (0, 1, 3, 4):
-        return unanswered(answer, number)
+    answer = caller.call("judge", request(source, f"triple {number}"), label=f"{source.name} triple {number}")
+    if not is_answer(answer):
+        return unanswered(caller, answer, number) if is_there(caller, source, number) else None
     found = read_report(answer.output)
     return None if not found or found[0].kind == "request" else found[0]
 
 
-def triples_of(caller, source, pool, jobs, on_one):
+def triples_of(caller, source, calls, jobs, on_one):
     """The findings of all triples, in order, some at a time: a number is asked for until one isn't there."""
-    found, asked, waiting, more = {}, 0, {}, True
+    found, asked, waiting, more = [], 0, {}, True
     while more or waiting:
         while more and len(waiting) < jobs:
             asked += 1
-            waiting[asked] = pool.submit(triple_of, caller, source, asked)
-        number = min(waiting)
-        told = waiting.pop(number).result()
-        if told is None:
-            more = False
-        elif more:
-            found[number] = told
+            waiting[asked] = calls.submit(triple_of, caller, source, asked)
+        told = waiting.pop(min(waiting)).result()
+        more = more and told is not None
+        if more:
+            found.append(told)
             on_one(told)
-    return [found[number] for number in sorted(found)]
+    return found
 
 
-def judge_file(caller, source, jobs=1, with_meet=True, on_one=lambda told: None, explain=None):
-    """All that is told of a file; `explain(caller, source, finding)` says more of each invalid triple."""
-    told = Told(source)
-    if source.has_cut_line():
-        # at such a line the text would be cut, so it is judged whole
-        told.findings = [it for it in read_report(caller.call("check", source.data).output)]
-        return told
-    with ThreadPoolExecutor(jobs + 1) as pool:
+@dataclass
+class Wishes:
+    """How files are judged: how many calls run at a time, whether stores are sought that meet each triple, whom each triple is told when it is done, and what says more of an invalid one."""
+
+    jobs: int = 1
+    with_meet: bool = True
+    on_one: object = lambda told: None
+    explain: object = None
+
+
+def judge_files(caller, sources, wishes):
+    """All that is told of each file, in order. So many calls run at a time, whatever files they are for."""
+    with ThreadPoolExecutor(wishes.jobs) as calls, ThreadPoolExecutor(wishes.jobs) as files:
         try:
-            judge_parts(caller, source, told, pool, jobs, with_meet, on_one, explain)
-        except KeyboardInterrupt:
-            # what runs is ended first, since the pool waits for it
+            yield from files.map(lambda source: judge_file(caller, source, calls, wishes), sources)
+        except BaseException:
+            # what runs is ended first, since the pools wait for it
             caller.stop()
             raise
+
+
+def judge_file(caller, source, calls, wishes):
+    told = Told(source)
+    if source.is_one_piece():
+        answer = calls.submit(caller.call, "check", source.data, label=source.name).result()
+        told.findings = read_report(answer.output) if is_answer(answer) else [unanswered(caller, answer)]
+    else:
+        judge_parts(caller, told, calls, wishes)
     if not told.findings:
         told.warnings.append("there is no procedure, so nothing was judged")
     return told
 
 
-def judge_parts(caller, source, told, pool, jobs, with_meet, on_one, explain):
+def judge_parts(caller, told, calls, wishes):
     """The fields first, and then the triples, beside them the starts."""
-    told.findings = fields_of(caller, source)
+    source = told.source
+    told.findings = calls.submit(fields_of, caller, source).result()
     if told.findings:
         return
-    starts = pool.submit(caller.call, "meet", source.data, label="the starts") if with_meet else None
-    told.findings = triples_of(caller, source, pool, jobs, on_one)
-    invalid = [it for it in told.findings if it.verdict == "invalid"] if explain else []
-    told.explained = dict(zip((it.number for it in invalid), pool.map(lambda it: explain(caller, source, it), invalid)))
+    starts = calls.submit(caller.call, "meet", source.data, label=f"{source.name} the starts") if wishes.with_meet else None
+    told.findings = triples_of(caller, source, calls, wishes.jobs, wishes.on_one)
+    invalid = [it for it in told.findings if it.verdict == "invalid"] if wishes.explain else []
+    told.explained = dict(zip((it.number for it in invalid), calls.map(lambda it: wishes.explain(caller, source, it), invalid)))
     if starts is not None:
-        answer = starts.result()
-        told.unmet = {it.number for it in read_report(answer.output) if it.verdict == "empty"} if not answer.cut else set()
+        add_starts(told, starts.result())
+
+
+def add_starts(told, answer):
+    """Which triples no store meets; and the names and lines of those without an answer, which only the starts have."""
+    if not is_answer(answer):
+        told.warnings.append("it wasn't found out whether a store meets each triple: `pale meet` had no answer")
+        return
+    starts = {it.number: it for it in read_report(answer.output) if it.kind == "start"}
+    told.is_met_known, told.unmet = True, {number for number, it in starts.items() if it.verdict == "empty"}
+    for finding in told.findings:
+        if finding.verdict == "no answer" and finding.number in starts:
+            finding.procedure, finding.line = starts[finding.number].procedure, starts[finding.number].line
 
 
 def status_of(all_told):

@@ -1,6 +1,7 @@
-"""A line of progress on a terminal: how many triples are done, and which run for how long."""
+"""A line of progress on a terminal: how many files and triples are done, and which calls run for how long."""
 import sys
 import threading
+from contextlib import contextmanager
 
 SECONDS = 0.2
 
@@ -8,10 +9,10 @@ SECONDS = 0.2
 class Progress:
     """Shows the line while calls run, where it is wanted; as a context it ends with its block."""
 
-    def __init__(self, caller, is_shown):
-        self.caller, self.is_shown = caller, is_shown
-        self.name, self.done, self.is_on = "", 0, False
-        self.ended = threading.Event()
+    def __init__(self, caller, files, is_shown):
+        self.caller, self.files, self.is_shown = caller, files, is_shown
+        self.told = self.done = 0
+        self.ended, self.lock = threading.Event(), threading.Lock()
         self.thread = threading.Thread(target=self.show, daemon=True)
 
     def __enter__(self):
@@ -25,23 +26,31 @@ class Progress:
             self.thread.join()
             self.clear()
 
-    def begin(self, name):
-        self.name, self.done, self.is_on = name, 0, True
-
     def one(self, _told):
+        """A triple is done."""
         self.done += 1
 
+    @contextmanager
+    def aside(self):
+        """While a file is told there is no line."""
+        with self.lock:
+            self.told += 1
+            self.clear()
+            yield
+            sys.stdout.flush()
+
     def clear(self):
-        self.is_on = False
         if self.is_shown:
             sys.stderr.write("\r\033[K")
+            sys.stderr.flush()
 
     def line(self):
         calls = ", ".join(f"{label} for {seconds:.0f} s" for label, seconds in self.caller.under_way()[:4])
-        return f"{self.name}: {self.done} triples done" + (f"; running: {calls}" if calls else "")
+        text = f"{self.told} of {self.files} files, {self.done} triples done" + (f"; running: {calls}" if calls else "")
+        return "".join(it for it in text if it.isprintable())[:150]
 
     def show(self):
         while not self.ended.wait(SECONDS):
-            if self.is_on:
-                sys.stderr.write(f"\r{self.line()[:150]}\033[K")
+            with self.lock:
+                sys.stderr.write(f"\r{self.line()}\033[K")
                 sys.stderr.flush()

@@ -32,6 +32,7 @@ class Finding:
     cause: str = ""
     at: int = 0
     store: Store = None
+    seconds: float = 0
 
 
 def read_store(lines):

@@ -17,12 +17,21 @@ class Token:
     column: int
 
 
+# A text is at most so long, with a request behind it; a longer one is refused, so no more of it is read.
+MOST_BYTES, REQUEST_BYTES = 1 << 20, 64
+
+
+def read_text(path):
+    with open(path, "rb") as file:
+        return file.read(MOST_BYTES + 1)
+
+
 class Source:
     """A program's file."""
 
     def __init__(self, path, data=None):
-        self.path = str(path)
-        self.data = Path(path).read_bytes() if data is None else data
+        self.path, self.name = str(path), Path(path).name
+        self.data = read_text(path) if data is None else data
         self.lines = self.data.decode("utf-8", "replace").split("\n")
         self._tokens = None
 
@@ -53,9 +62,9 @@ class Source:
     def line(self, number):
         return self.lines[number - 1] if 0 < number <= len(self.lines) else ""
 
-    def has_cut_line(self):
-        """Whether a line is `---`, at which a text would be cut."""
-        return b"---" in self.data.split(b"\n")
+    def is_one_piece(self):
+        """Whether no request can stand behind it: a line is `---`, at which it would be cut, or it is as long as a text may be."""
+        return b"---" in self.data.split(b"\n") or len(self.data) + REQUEST_BYTES > MOST_BYTES
 
     def field_token(self, name):
         """The token that declares a pointer field, named `T.f`, or None."""
@@ -66,3 +75,22 @@ class Source:
             if owner == wanted and tokens[at].text == "pointer" and tokens[at + 1].text == field:
                 return tokens[at + 1]
         return None
+
+    def fields_of(self, type_name):
+        """The fields of a cell of a type, or of a variant as `T:v`, each with the value that a new cell has."""
+        wanted, _, variant = type_name.partition(":")
+        tokens, at = self.tokens(), 0
+        while at + 1 < len(tokens) and not (tokens[at].text == "type" and tokens[at + 1].text == wanted):
+            at += 1
+        fields, block, depth, name = [], "", 0, ""
+        for place in range(at + 2, len(tokens)):
+            token = tokens[place]
+            if token.text in ("type", "pred", "proc") and depth == 0:
+                break
+            depth += {"{": 1, "}": -1}.get(token.text, 0)
+            if token.text == "|" and depth == 0:
+                block = tokens[place + 1].text
+            name = tokens[place + 1].text if depth == 1 and token.text in ("bool", "data", "pointer") and place + 1 < len(tokens) else ""
+            if name and block in ("", variant):
+                fields.append((name, "false" if token.text == "bool" else "null"))
+        return fields

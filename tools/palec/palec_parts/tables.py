@@ -1,7 +1,11 @@
-"""A store as lines of text: its variables, and its cells as a table."""
+"""A store as lines of text: its variables, and its cells as a table. What a step changed has a star."""
 
 
-def rows_of(cells):
+def starred(value, is_changed):
+    return f"{value}*" if is_changed else value
+
+
+def rows_of(cells, changed):
     """The rows of the table, a head before each run of cells with the same fields."""
     rows, last = [], None
     for cell in cells:
@@ -9,7 +13,8 @@ def rows_of(cells):
         if names != last:
             rows.append(["cell", "type", *names])
             last = names
-        rows.append([str(cell.number), cell.type, *(value for _, value in cell.values)])
+        values = [starred(value, (cell.number, name) in changed) for name, value in cell.values]
+        rows.append([starred(str(cell.number), cell.number in changed), cell.type, *values])
     return rows
 
 
@@ -20,7 +25,7 @@ def table_lines(rows):
     return ["  ".join(it.ljust(widths[at]) for at, it in enumerate(row)).rstrip() for row in rows]
 
 
-def store_lines(store):
+def store_lines(store, changed=frozenset()):
     """The variables in one line, and then the cells."""
-    variables = ", ".join(f"{name} = {value}" for name, value in store.variables)
-    return [variables or "no variables", *(table_lines(rows_of(store.cells)) or ["no cells"])]
+    variables = ", ".join(f"{name} = {starred(value, name in changed)}" for name, value in store.variables)
+    return [variables or "no variables", *(table_lines(rows_of(store.cells, changed)) or ["no cells"])]
