@@ -8,13 +8,20 @@ MOST_SECONDS = 20
 
 
 def quoted(text):
-    return '"' + text.replace("\\", "\\\\").replace('"', '\\"') + '"'
+    return '"' + text.replace("\\", "\\\\").replace('"', '\\"').replace("\n", "\\n") + '"'
 
 
 def pointer_fields(source):
     """The names of pointer fields in the text's types."""
     tokens = source.tokens()
     return {tokens[at + 1].text for at in range(len(tokens) - 2) if tokens[at].text == "pointer" and tokens[at + 2].text == ":"}
+
+
+def cell_label(cell):
+    """A cell's number and type, its bool fields, and which of its fields are null."""
+    truths = [f"{name}={value}" for name, value in cell.values if value in ("true", "false")]
+    empty = [name for name, value in cell.values if value == "null"]
+    return " ".join([f"{cell.number}: {cell.type}", *truths]) + (f"\n{', '.join(empty)}: null" if empty else "")
 
 
 def as_dot(store, dashed, title="", changed=frozenset()):
@@ -25,9 +32,8 @@ def as_dot(store, dashed, title="", changed=frozenset()):
         lines.append(f"  label={quoted(title)}; labelloc=t;")
     cells = {it.number for it in store.cells}
     for cell in store.cells:
-        truths = [f"{name}={value}" for name, value in cell.values if value in ("true", "false")]
-        is_changed = cell.number in changed or any((cell.number, name) in changed for name, value in cell.values if value in ("true", "false"))
-        lines.append(f"  c{cell.number} [label={quoted(' '.join([f'{cell.number}: {cell.type}', *truths]))}{', color=red, fontcolor=red' if is_changed else ''}];")
+        is_changed = cell.number in changed or any((cell.number, name) in changed for name, value in cell.values if not value.isdigit())
+        lines.append(f"  c{cell.number} [label={quoted(cell_label(cell))}{', color=red, fontcolor=red' if is_changed else ''}];")
         for name, value in cell.values:
             if value.isdigit():
                 style = "dashed" if name in dashed else "solid"

@@ -4,7 +4,7 @@ import difflib
 from .grammar import expected_at, reserved_words
 
 REFUSALS = {
-    "char": "no token begins with this byte",
+    "char": "no token begins with {}",
     "syntax": "{} can't stand here",
     "deep": "more than 200 levels are open here",
     "too-long": "the text has more than 1,048,576 bytes",
@@ -123,6 +123,10 @@ def habit_at(source, finding):
         return "in an assertion the marks are `&` and `|`"
     if text in ("&", "|"):
         return "in a condition of code the marks are `&&` and `||`"
+    if text == ":" and len(before) > 1 and before[-1].kind == "name" and before[-2].text in ("{", ";", "}"):
+        return HABITS["var"]
+    if text == "(" and len(before) > 1 and before[-2].text == "new":
+        return "a cell is made without parentheses: `x = new T;`"
     if text == "(" and before and before[-1].kind == "name":
         return "a procedure is called by `call`: `call y = p(x);`"
     if text in reserved_words() and last in (":", ".", "data", "pointer", "bool", "type", "proc", "pred", ","):
@@ -195,8 +199,26 @@ def help_on_name(source, finding):
     if finding.word == "unknown":
         names = {it.text for it in source.tokens() if it.kind == "name"} - reserved_words() - {name}
         close = difflib.get_close_matches(name, sorted(names), 1, 0.7)
-        return f"perhaps `{close[0]}` is meant" if close else ""
+        return f"perhaps `{close[0]}` is meant" if close else names_there(source, finding)
     return ""
+
+
+def declared(source, words):
+    """The names that types declare behind these words: fields, or the types themselves."""
+    found, owner = [], ""
+    for token, following in zip(source.tokens(), source.tokens()[1:]):
+        owner = token.text if token.text in ("type", "pred", "proc") else owner
+        if owner == "type" and token.text in words and following.kind == "name" and following.text not in found:
+            found.append(following.text)
+    return found
+
+
+def names_there(source, finding):
+    """The fields that are declared, where an unknown one is named, or the types."""
+    before = [it.text for it in source.tokens() if (it.line, it.column) < (finding.line, finding.column)][-3:]
+    is_field, is_type = before[-1:] == ["."], before[-1:] == ["new"] or before[-1:] == [":"] and before[0] in ("data", "pointer")
+    found = declared(source, ("data", "pointer", "bool") if is_field else ("type",)) if is_field or is_type else []
+    return f"declared {'fields' if is_field else 'types'}: " + ", ".join(f"`{it}`" for it in found) if 0 < len(found) < 13 else ""
 
 
 def help_on_duplicate(source, finding):
@@ -216,7 +238,7 @@ def refusal_sentence(source, finding):
     found = source.token_at(finding.line, finding.column)
     if found and found.kind == "end" and finding.word == "syntax":
         return "the text can't end here"
-    name = f"`{found.text}`" if found and found.kind in ("name", "number", "mark") else "this"
+    name = f"`{found.text}`" if found and found.text.isascii() and found.text.isprintable() and found.kind != "end" else "this"
     return REFUSALS.get(finding.word, f"refused as `{finding.word}`").format(name)
 
 

@@ -18,10 +18,11 @@ STYLE = """
 body { font: 15px/1.4 system-ui, sans-serif; margin: 0; display: flex; height: 100vh; color: #222; background: #fff; }
 #program { flex: 1; overflow: auto; border-right: 1px solid #ccc; padding: 8px 0; }
 #side { flex: 1; overflow: auto; padding: 8px 16px; }
-.line { display: flex; font: 13px/1.5 ui-monospace, monospace; white-space: pre; min-width: max-content; }
-.line b { flex: none; width: 4em; text-align: right; padding-right: 1em; color: #888; font-weight: normal; }
+.line { display: flex; font: 13px/1.5 ui-monospace, monospace; padding-right: 8px; }
+.line b { flex: none; width: 3em; text-align: right; padding-right: 1em; color: #888; font-weight: normal; }
+.line span { flex: 1; white-space: pre-wrap; overflow-wrap: anywhere; }
 .line.bad { background: #fde8e8; } .line.now { background: #fff3b0; }
-.line i { font-style: normal; padding-left: 2em; color: #a00; white-space: nowrap; } .line i.good { color: #070; }
+.line i { font: 12px/1.5 system-ui, sans-serif; padding-left: 2em; color: #a00; } .line i.good { color: #070; }
 button { font: inherit; margin-right: 4px; } .triple.chosen { font-weight: bold; background: #eef; }
 #heap svg { max-width: 100%; height: auto; } #heap pre { font: 13px/1.5 ui-monospace, monospace; }
 #what { min-height: 3em; } .key { color: #666; font-size: 13px; } .triple button { text-align: left; }
@@ -36,7 +37,6 @@ const wanted = new URLSearchParams(location.hash.slice(1));
 function show() {
   if (!shown.length) return;
   const one = shown[triple], frame = one.frames[step];
-  at('name').textContent = one.name;
   at('count').textContent = 'step ' + step + ' of ' + (one.frames.length - 1);
   at('what').textContent = frame.text;
   if (frame.svg) at('heap').innerHTML = frame.svg; else { at('heap').innerHTML = ''; const p = document.createElement('pre'); p.textContent = frame.lines.join('\\n'); at('heap').append(p); }
@@ -70,10 +70,10 @@ def frame(text, line, heap, dashed):
 def frames_of(source, finding, told, dashed):
     """The pictures of an invalid triple: its start, each step, and where it fails."""
     why, hint = CAUSES.get(finding.cause, ("it fails", ""))
-    end = " ".join([f"line {finding.at}: it fails here: {why}.", *(it + "." for it in part_lines(source, told.parts)), *([f"What helps: {hint}."] if hint else [])])
+    end = "; ".join([f"line {finding.at}: it fails here: {why}", *part_lines(source, told.parts)]) + (f". What helps: {hint}." if hint else ".")
     found = [frame(f"it starts at line {finding.line} with this store", finding.line, told.heaps[0], dashed)]
     for step, heap in list(zip(told.trace.steps, told.heaps[1:]))[:MOST_PICTURES]:
-        found.append(frame(f"line {step.line}: {sentence(step)}", step.line, heap, dashed))
+        found.append(frame(f"line {step.line}: {sentence(source, step)}", step.line, heap, dashed))
     left = len(told.trace.steps) - MOST_PICTURES
     text = f"{left} more steps, and then {end}" if left > 0 else end
     return [*found, frame(text, finding.at, Heap(told.heaps[-1].store), dashed)]
@@ -100,7 +100,7 @@ def remarks_of(told):
             continue
         is_unmet = finding.kind == "triple" and finding.number in told.unmet
         text = f"triple {finding.number}: no store meets it" if is_unmet else sentence_of(told, finding)
-        if finding.verdict == "invalid":
+        if finding.verdict == "invalid" and finding.line != finding.at:
             remarks.setdefault(finding.line, []).append((f"triple {finding.number}: invalid, it can fail at line {finding.at}", False))
         line = finding.at if finding.verdict == "invalid" else place_of(told, finding)[0]
         remarks.setdefault(line, []).append((text, finding.verdict == "valid" and not is_unmet))
@@ -113,7 +113,7 @@ def program_lines(told):
         here = remarks.get(number, [])
         bad = " bad" if any(not good for _, good in here) else ""
         notes = "".join(f'<i class="{"good" if good else "fault"}">{html.escape(text)}</i>' for text, good in here)
-        yield f'<div class="line{bad}" id="line{number}"><b>{number}</b><span>{html.escape(line)}</span>{notes}</div>'
+        yield f'<div class="line{bad}" id="line{number}"><b>{number}</b><span>{html.escape(line)}{notes}</span></div>'
 
 
 def as_page(told):
@@ -122,7 +122,7 @@ def as_page(told):
     data = json.dumps(shown).replace("<", "\\u003c")
     name = html.escape(told.source.path)
     chosen = "".join(f'<div class="triple"><button>{html.escape(it["name"])}</button></div>' for it in shown)
-    steps = ('<p><button id="back">&#8592;</button><button id="on">&#8594;</button> <span id="count"></span></p><h3 id="name"></h3><p id="what"></p><div id="heap"></div>'
+    steps = ('<p><button id="back">&#8592;</button><button id="on">&#8594;</button> <span id="count"></span></p><p id="what"></p><div id="heap"></div>'
              '<p class="key">The arrow keys go on and back, Home and End to the start and to the failure. Data fields are solid, pointer fields dashed; what the step changed is red.</p>'
              if shown else "<p>There is no store to show.</p>")
     helps = [line for it in told.findings if it.kind == "refused" for line in (sentence_of(told, it), *refusal_help(told.source, it))]

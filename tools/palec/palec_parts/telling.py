@@ -70,7 +70,7 @@ def tell_invalid(writer, source, name, finding, explained):
     writer.place(source, source.first_on(finding.at, KEYWORDS), "here")
     writer.lines("note", ["it starts with the store", *store_lines(finding.store)] if finding.store else [])
     if explained.trace and explained.trace.steps:
-        writer.lines("note", ["and goes on so", *step_lines(explained.trace)])
+        writer.lines("note", ["and goes on so", *step_lines(source, explained.trace)])
     writer.lines("note", part_lines(source, explained.parts))
     writer.lines("help", [f"{hint}; docs/answers.md#{finding.cause} has an example"] if hint else [])
 
