@@ -31,7 +31,7 @@ def explain(caller, source, finding):
 
 
 def words_of(source, line):
-    return {it.text for it in source.tokens() if it.line == line}
+    return {it.text for it in source.tokens_on(line)}
 
 
 def setter(source, step):

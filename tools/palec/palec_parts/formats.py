@@ -1,5 +1,6 @@
 """The findings for machines: JSON, SARIF 2.1.0, and the commands of a GitHub workflow."""
 import json
+import os
 from urllib.parse import quote
 
 from .hints import CAUSES, refusal_sentence
@@ -67,7 +68,9 @@ def entries(all_told):
 
 
 def as_json(all_told):
-    return "".join(json.dumps(it) + "\n" for it in entries(all_told))
+    """Bytes of a path that are no UTF-8 stand as U+FFFD, since JSON can't have them."""
+    paths = {it.source.path: it.source.path.encode("utf-8", "surrogateescape").decode("utf-8", "replace") for it in all_told}
+    return "".join(json.dumps({**it, "file": paths[it["file"]]}) + "\n" for it in entries(all_told))
 
 
 def rule_of(entry):
@@ -86,7 +89,7 @@ def as_sarif(all_told, version):
         results.append({
             "ruleId": rule, "level": "warning" if unmet or entry["verdict"] in ("limit", "no answer") else "error",
             "message": {"text": "no store meets the triple" if unmet else entry["message"]},
-            "locations": [{"physicalLocation": {"artifactLocation": {"uri": quote(entry["file"])}, "region": region}}],
+            "locations": [{"physicalLocation": {"artifactLocation": {"uri": quote(os.fsencode(entry["file"]))}, "region": region}}],
         })
     tool = {"driver": {"name": "palec", "version": version, "rules": list(rules.values())}}
     schema = "https://json.schemastore.org/sarif-2.1.0.json"

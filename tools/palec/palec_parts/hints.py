@@ -24,6 +24,9 @@ REFUSALS = {
     "long-path": "a path has at most 1,024 fields",
 }
 
+# More of a name isn't told in a sentence.
+LONGEST_NAME = 60
+
 CAUSES = {
     "null": ("it goes through null", "test the variable before, or say in the precondition or invariant that it isn't null"),
     "dangling": ("it reads through a cell that was freed", "set pointers to a cell to another one, or to null, before it is freed"),
@@ -235,10 +238,11 @@ MORE = {
 
 def refusal_sentence(source, finding):
     """What is wrong, with the word that was found."""
-    found = source.token_at(finding.line, finding.column)
+    found = source.token_at(finding.line, finding.column) if finding.line else None
     if found and found.kind == "end" and finding.word == "syntax":
         return "the text can't end here"
-    name = f"`{found.text}`" if found and found.text.isascii() and found.text.isprintable() and found.kind != "end" else "this"
+    is_shown = found and found.text.isascii() and found.text.isprintable() and found.kind != "end"
+    name = f"`{found.text[:LONGEST_NAME]}`" if is_shown else "this byte" if finding.word == "char" else "this"
     return REFUSALS.get(finding.word, f"refused as `{finding.word}`").format(name)
 
 

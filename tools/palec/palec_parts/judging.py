@@ -28,7 +28,7 @@ def request(source, line):
 
 def unanswered(caller, answer, number=0):
     """The finding for a call without an answer."""
-    word = {"time": "time", "stopped": "stopped"}.get(answer.cut) or ENDED.get(answer.status) or f"ended with status {answer.status}"
+    word = answer.cut or ENDED.get(answer.status) or ("what was written can't be read" if is_answer(answer) else f"ended with status {answer.status}")
     return Finding("triple" if number else "other", number=number, verdict="no answer", word=word, seconds=caller.seconds or 0)
 
 
@@ -39,21 +39,24 @@ def is_answer(answer):
 def fields_of(caller, source):
     """The findings of the fields or of a refusal; none where every pointer field is functional."""
     answer = caller.call("judge", request(source, "fields"), label=f"{source.name} the fields")
-    return read_report(answer.output) if is_answer(answer) else [unanswered(caller, answer)]
+    found = read_report(answer.output) if is_answer(answer) else []
+    return found if found or (answer.status, answer.output, answer.cut) == (0, "", "") else [unanswered(caller, answer)]
 
 
 def is_there(caller, source, number):
-    """Whether there is a triple of that number, by a request of two lines: the second one is refused where the first isn't, and nothing is judged."""
-    return caller.call("judge", request(source, f"triple {number}\ntriple {number}")).output.startswith("request refused 2")
+    """Whether there is a triple of that number, or None where that isn't known. It is asked by a request of two lines: the second one is refused where the first isn't, and nothing is judged."""
+    answer = caller.call("judge", request(source, f"triple {number}\ntriple {number}"))
+    return {"request refused 2": True, "request refused 1": False}.get(answer.output[:17])
 
 
 def triple_of(caller, source, number):
-    """The finding of one triple, or None where there is no triple of that number."""
+    """The finding of one triple, or None where there is no triple of that number. It is without a number where even that isn't known."""
     answer = caller.call("judge", request(source, f"triple {number}"), label=f"{source.name} triple {number}")
-    if not is_answer(answer):
-        return unanswered(caller, answer, number) if is_there(caller, source, number) else None
-    found = read_report(answer.output)
-    return None if not found or found[0].kind == "request" else found[0]
+    found = read_report(answer.output) if is_answer(answer) else []
+    if found:
+        return None if found[0].kind == "request" else found[0]
+    known = is_there(caller, source, number)
+    return None if known is False else unanswered(caller, answer, number if known else 0)
 
 
 def triples_of(caller, source, calls, jobs, on_one):
@@ -64,10 +67,10 @@ def triples_of(caller, source, calls, jobs, on_one):
             asked += 1
             waiting[asked] = calls.submit(triple_of, caller, source, asked)
         told = waiting.pop(min(waiting)).result()
-        more = more and told is not None
-        if more:
+        if more and told is not None:
             found.append(told)
             on_one(told)
+        more = more and told is not None and told.kind == "triple"
     return found
 
 

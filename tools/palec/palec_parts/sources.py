@@ -3,8 +3,9 @@ import re
 from dataclasses import dataclass
 from pathlib import Path
 
+# A run of bytes that begin no token counts as its first one.
 TOKEN = re.compile(rb"#[^\n]*|[ \t\r\n]+|(?P<name>[A-Za-z][A-Za-z0-9_]*)|(?P<number>[0-9]+)"
-                   rb"|(?P<mark><=>|==|=>|!=|~=|&&|\|\||[=!~&|<>()\[\]{}:;,.*+^$@?])|(?P<other>.)", re.S)
+                   rb"|(?P<mark><=>|==|=>|!=|~=|&&|\|\||[=!~&|<>()\[\]{}:;,.*+^$@?])|(?P<other>[^A-Za-z0-9 \t\r\n#<>=!~&|()\[\]{}:;,.*+^$@?])[^A-Za-z0-9 \t\r\n#<>=!~&|()\[\]{}:;,.*+^$@?]*")
 
 
 @dataclass
@@ -33,7 +34,7 @@ class Source:
         self.path, self.name = str(path), Path(path).name
         self.data = read_text(path) if data is None else data
         self.lines = self.data.decode("utf-8", "replace").split("\n")
-        self._tokens = None
+        self._tokens, self._lines = None, {}
 
     def tokens(self):
         """All tokens, and one at the end of the text."""
@@ -41,22 +42,28 @@ class Source:
             self._tokens, line, start = [], 1, 0
             for found in TOKEN.finditer(self.data):
                 if found.lastgroup:
-                    text = found.group().decode("utf-8", "replace")
+                    text = found.group(found.lastgroup).decode("utf-8", "replace")
                     self._tokens.append(Token(found.lastgroup, text, line, found.start() - start + 1))
                 newlines = found.group().count(b"\n")
                 if newlines:
                     line += newlines
                     start = found.start() + found.group().rindex(b"\n") + 1
+            for token in self._tokens:
+                self._lines.setdefault(token.line, []).append(token)
             self._tokens.append(Token("end", "", line, len(self.data) - start + 1))
         return self._tokens
 
+    def tokens_on(self, line):
+        self.tokens()
+        return self._lines.get(line, [])
+
     def token_at(self, line, column):
         """The token that begins there, if one does."""
-        return next((it for it in self.tokens() if (it.line, it.column) == (line, column)), None)
+        return next((it for it in [*self.tokens_on(line), self.tokens()[-1]] if (it.line, it.column) == (line, column)), None)
 
     def first_on(self, line, prefer=()):
         """The token that a finding at a line points to: the first of those words on it, else the first one, else the line's beginning."""
-        here = [it for it in self.tokens() if it.line == line and it.kind != "end"]
+        here = self.tokens_on(line)
         return next((it for it in here if it.text in prefer), here[0] if here else Token("other", " ", line, 1))
 
     def line(self, number):

@@ -6,6 +6,7 @@ from .hints import CAUSES, refusal_help, refusal_sentence
 from .tables import store_lines
 
 COLOURS = {"error": "\033[1;31m", "warning": "\033[1;33m", "note": "\033[1;36m", "help": "\033[1;32m", "": "\033[0m"}
+LONGEST_LINE = 180
 KEYWORDS = ("while", "split", "call", "proc", "assert", "free", "}")
 
 
@@ -24,16 +25,23 @@ class Writer:
     def place(self, source, token, remark=""):
         """The line of a token, with carets under it."""
         wide = len(str(token.line))
-        line = source.line(token.line).rstrip("\r")
-        before = line.encode()[: token.column - 1].decode("utf-8", "replace")
+        line, before = shown_part(source.line(token.line).rstrip("\r"), token)
         gap = "".join("\t" if it == "\t" else " " for it in before)
+        carets = "^" * max(min(len(token.text), len(line) - len(before)), 1)
         self.write(f"{' ' * wide}--> {printable(source.path)}:{token.line}:{token.column}\n{' ' * wide} |\n")
         self.write(f"{token.line} | {printable(line)}\n")
-        self.write(f"{' ' * wide} | {gap}{self.coloured('error', '^' * max(len(token.text), 1))}{' ' + remark if remark else ''}\n")
+        self.write(f"{' ' * wide} | {gap}{self.coloured('error', carets)}{' ' + remark if remark else ''}\n")
 
     def lines(self, kind, lines):
         for line in lines:
             self.write(f"   = {self.coloured(kind, kind)}: {line}\n")
+
+
+def shown_part(line, token):
+    """What is shown of a line: all of it, or, where it is long, what is around the token; and what of that stands before the token."""
+    before = line.encode()[: token.column - 1].decode("utf-8", "replace")
+    first = max(len(before) - LONGEST_LINE // 2, 0) if len(line) > LONGEST_LINE else 0
+    return line[first: first + LONGEST_LINE], before[first:]
 
 
 def printable(text):
