@@ -98,7 +98,7 @@ class Calls(unittest.TestCase):
     def test_formats_for_machines_are_well_formed(self):
         path = HERE / "mistakes" / "lost_cell.pale"
         schema = json.loads((running.TOP / "docs" / "palec.schema.json").read_text())
-        for name in ("lost_cell", "ambiguous_field", "arrow", "met_by_none", "half_of_post"):
+        for name in ("lost_cell", "ambiguous_field", "arrow", "met_by_none", "half_of_post", "no_procedure"):
             _, lines = told("check", path.with_name(f"{name}.pale"), "--format", "json")
             self.assertEqual([it for line in lines.splitlines() for it in faults(schema, json.loads(line))], [], name)
         log = json.loads(told("check", path, "--format", "sarif")[1])

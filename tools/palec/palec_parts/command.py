@@ -132,8 +132,8 @@ def explain(words, caller):
     if sources is None:
         return USAGE
     told = judged(words, caller, sources[0])
-    if not told.findings:
-        print("palec: there is no triple" + (f" {words.triple}" if words.triple is not None else ""), file=sys.stderr)
+    if not told.findings and words.triple is not None:
+        print(f"palec: there is no triple {words.triple}", file=sys.stderr)
         return USAGE
     writer = telling.Writer(sys.stdout.write, is_coloured("auto"))
     telling.tell_file(writer, told, is_stepped=True)

@@ -4,6 +4,7 @@ import os
 from urllib.parse import quote
 
 from .hints import CAUSES, refusal_sentence
+from .reports import Finding
 from .telling import KEYWORDS, no_answer
 
 
@@ -28,7 +29,8 @@ def sentence_of(told, finding):
     if finding.kind == "refused":
         return refusal_sentence(told.source, finding)
     if finding.kind == "field":
-        return f"the field {finding.procedure} is ambiguous" if finding.verdict == "ambiguous" else f"the field {finding.procedure} met the limit"
+        at = f"the route of the field {finding.procedure}"
+        return f"{at} leads to two cells from cell {finding.at}" if finding.verdict == "ambiguous" else f"{at} met the limit"
     if finding.verdict == "invalid":
         return f"triple {finding.number} of {finding.procedure} can fail: {CAUSES.get(finding.cause, ('it fails', ''))[0]}"
     name = f"triple {finding.number}" if finding.kind == "triple" else "the file"
@@ -49,22 +51,43 @@ def steps_of(explained):
     return [{"line": it.line, "kind": it.kind, "place": it.place or None, "value": it.value or None} for it in explained.trace.steps]
 
 
+def entry_of(told, finding):
+    """What is told of a finding, by the keys of docs/palec.schema.json."""
+    line, column = place_of(told, finding)
+    is_triple = finding.kind == "triple"
+    explained = told.explained.get(finding.number) if is_triple else None
+    parts = [it.text(told.source) for it in explained.parts] if explained else []
+    return {
+        "file": told.source.path, "kind": finding.kind, "line": line, "column": column, "verdict": finding.verdict or finding.kind,
+        "cause": finding.cause or finding.word or None, "triple": finding.number or None, "name": finding.procedure or None,
+        "starts": finding.line or None if is_triple else None, "met": finding.number not in told.unmet if told.is_met_known and is_triple else None,
+        "message": "; ".join([sentence_of(told, finding), *(f"this is false: {it}" for it in parts)]), "store": store_of(finding.store),
+        "steps": steps_of(explained), "false": parts,
+    }
+
+
 def entries(all_told):
-    """One object for each finding, and one for each start that no store meets."""
+    """One object for each finding, and one for each warning on a file."""
     for told in all_told:
-        for finding in told.findings:
-            if finding.kind in ("stopped", "other") and not is_fault(finding):
-                continue
-            line, column = place_of(told, finding)
-            explained = told.explained.get(finding.number) if finding.kind == "triple" else None
-            parts = [it.text(told.source) for it in explained.parts] if explained else []
-            yield {
-                "file": told.source.path, "kind": finding.kind, "line": line, "column": column, "verdict": finding.verdict or finding.kind,
-                "cause": finding.cause or finding.word or None, "triple": finding.number or None, "name": finding.procedure or None,
-                "starts": finding.line or None if finding.kind == "triple" else None, "met": finding.number not in told.unmet if told.is_met_known and finding.kind == "triple" else None,
-                "message": "; ".join([sentence_of(told, finding), *(f"this is false: {it}" for it in parts)]), "store": store_of(finding.store),
-                "steps": steps_of(explained), "false": parts,
-            }
+        yield from (entry_of(told, it) for it in told.findings if it.kind not in ("stopped", "other") or is_fault(it))
+        yield from ({**entry_of(told, Finding("other", verdict="warning")), "message": it} for it in told.warnings)
+
+
+def is_told(entry):
+    """Whether logs of faults have it: what is valid, and met by a store, isn't in them."""
+    return entry["verdict"] != "valid" or is_unmet(entry)
+
+
+def is_unmet(entry):
+    return entry["met"] is False and entry["verdict"] == "valid"
+
+
+def level_of(entry):
+    return "warning" if is_unmet(entry) or entry["verdict"] in ("limit", "no answer", "warning") else "error"
+
+
+def text_of(entry):
+    return "no store meets the triple" if is_unmet(entry) else entry["message"]
 
 
 def as_json(all_told):
@@ -74,21 +97,16 @@ def as_json(all_told):
 
 
 def rule_of(entry):
-    return f"{entry['kind']}/{entry['cause'] or entry['verdict']}".replace(" ", "-")
+    return "triple/unmet" if is_unmet(entry) else f"{entry['kind']}/{entry['cause'] or entry['verdict']}".replace(" ", "-")
 
 
 def as_sarif(all_told, version):
     results, rules = [], {}
-    for entry in entries(all_told):
-        unmet = entry["met"] is False and entry["verdict"] == "valid"
-        if entry["verdict"] == "valid" and not unmet:
-            continue
-        rule = "triple/unmet" if unmet else rule_of(entry)
-        rules.setdefault(rule, {"id": rule, "shortDescription": {"text": "no store meets the triple" if unmet else entry["message"]}})
+    for entry in filter(is_told, entries(all_told)):
+        rules.setdefault(rule_of(entry), {"id": rule_of(entry), "shortDescription": {"text": text_of(entry)}})
         region = {"startLine": entry["line"], "startColumn": entry["column"]}
         results.append({
-            "ruleId": rule, "level": "warning" if unmet or entry["verdict"] in ("limit", "no answer") else "error",
-            "message": {"text": "no store meets the triple" if unmet else entry["message"]},
+            "ruleId": rule_of(entry), "level": level_of(entry), "message": {"text": text_of(entry)},
             "locations": [{"physicalLocation": {"artifactLocation": {"uri": quote(os.fsencode(entry["file"]))}, "region": region}}],
         })
     tool = {"driver": {"name": "palec", "version": version, "rules": list(rules.values())}}
@@ -101,12 +119,5 @@ def escaped(text):
 
 
 def as_github(all_told):
-    lines = []
-    for entry in entries(all_told):
-        unmet = entry["met"] is False and entry["verdict"] == "valid"
-        if entry["verdict"] == "valid" and not unmet:
-            continue
-        level = "warning" if unmet or entry["verdict"] in ("limit", "no answer") else "error"
-        text = "no store meets the triple" if unmet else entry["message"]
-        lines.append(f"::{level} file={escaped(entry['file'])},line={entry['line']},col={entry['column']}::{text.replace('%', '%25')}\n")
-    return "".join(lines)
+    return "".join(f"::{level_of(it)} file={escaped(it['file'])},line={it['line']},col={it['column']}::{text_of(it).replace('%', '%25')}\n"
+                   for it in filter(is_told, entries(all_told)))

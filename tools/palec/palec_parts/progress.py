@@ -1,4 +1,5 @@
 """A line of progress on a terminal: how many files and triples are done, and which calls run for how long."""
+import shutil
 import sys
 import threading
 from contextlib import contextmanager
@@ -47,7 +48,7 @@ class Progress:
     def line(self):
         calls = ", ".join(f"{label} for {seconds:.0f} s" for label, seconds in self.caller.under_way()[:4])
         text = f"{self.told} of {self.files} files, {self.done} triples done" + (f"; running: {calls}" if calls else "")
-        return "".join(it for it in text if it.isprintable())[:150]
+        return "".join(it for it in text if it.isprintable())[:shutil.get_terminal_size().columns - 1]
 
     def show(self):
         while not self.ended.wait(SECONDS):
