@@ -3,8 +3,8 @@
 //! left.
 //!
 //! `specs/Replaying.antt`, `specs/Running.antt`, `specs/Tracing.antt`, `specs/Formatting.antt` and `specs/Deciding.antt` say what each
-//! of the five writes for a text and with which status; `specs/Written.antt` says what a sink was told of an allowed output, and `specs/Completing.antt` of which
-//! texts something is said whatever their size.
+//! of the five writes for a text and with which status; `specs/Written.antt` says what a sink was told of an allowed output, and
+//! `specs/Completing.antt` of which texts something is said whatever their size.
 #![tactic(auto)]
 
 mod completing;

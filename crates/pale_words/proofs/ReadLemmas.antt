@@ -57,8 +57,10 @@ named_mode t among =
     go false false false false true f g h i is_a is_b is_c is_d same is_f is_g is_h is_i some = (Judge, sym ((bytes_eq-Decides (codes "judge") t).0 same))
     go false false false false false true g h i is_a is_b is_c is_d is_e same is_g is_h is_i some = (Meet, sym ((bytes_eq-Decides (codes "meet") t).0 same))
     go false false false false false false true h i is_a is_b is_c is_d is_e is_f same is_h is_i some = (Run, sym ((bytes_eq-Decides (codes "run") t).0 same))
-    go false false false false false false false true i is_a is_b is_c is_d is_e is_f is_g same is_i some = (Trace, sym ((bytes_eq-Decides (codes "trace") t).0 same))
-    go false false false false false false false false true is_a is_b is_c is_d is_e is_f is_g is_h same some = (Gen, sym ((bytes_eq-Decides (codes "gen") t).0 same))
+    go false false false false false false false true i is_a is_b is_c is_d is_e is_f is_g same is_i some =
+        (Trace, sym ((bytes_eq-Decides (codes "trace") t).0 same))
+    go false false false false false false false false true is_a is_b is_c is_d is_e is_f is_g is_h same some =
+        (Gen, sym ((bytes_eq-Decides (codes "gen") t).0 same))
     go false false false false false false false false false is_a is_b is_c is_d is_e is_f is_g is_h is_i some = absurd (true≢false (sym some))
 
 accepted_mode : (parser : ValueParser) → IsModeParser parser → (t : Text) → Accepts false parser t → (mode : Mode) × (t ≡ mode_name mode)
