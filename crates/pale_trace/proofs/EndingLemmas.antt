@@ -64,20 +64,30 @@ module _ (program : TypedProgram) (t : Triple) (e : ProcEntry) (s : StoreMap) wh
     executed : (shown : List Event) (at : StoreMap) (end : Result ℕ Fault) → Meets program.types e.vars t s →
         TracesTriple program.types e.vars t s shown at end → Replayed (triple_ending end) (triple_text program t shown at end)
     executed shown at (Ok line) meets traces =
-        let (place, cut, runs, there, sound, at_line) = ends program.types e.vars t s at shown line traces in
-        (replayed.Ends line, replays.ends line meets (record {
-          place = place;
-          cut = cut;
-          store = at;
-          ends = runs;
-          there = there;
-          sound = sound;
-          at_line = at_line;
-        }), refl, trace_lines program t.proc shown, stand_text program t.proc at, refl)
-    executed shown at (Err fault) meets traces =
-        (replayed.Fails fault.cause fault.line,
-        replays.fails fault.cause fault.line meets (fails program.types e.vars t s at shown fault traces),
-        refl, trace_lines program t.proc shown, stand_text program t.proc at, refl)
+        let (place, cut, runs, there, sound, at_line) = ends program.types e.vars t s at shown line traces in (
+          replayed.Ends line,
+          replays.ends line meets (record {
+            place = place;
+            cut = cut;
+            store = at;
+            ends = runs;
+            there = there;
+            sound = sound;
+            at_line = at_line;
+          }),
+          refl,
+          trace_lines program t.proc shown,
+          stand_text program t.proc at,
+          refl,
+        )
+    executed shown at (Err fault) meets traces = (
+      replayed.Fails fault.cause fault.line,
+      replays.fails fault.cause fault.line meets (fails program.types e.vars t s at shown fault traces),
+      refl,
+      trace_lines program t.proc shown,
+      stand_text program t.proc at,
+      refl,
+    )
 
     pub ends_replayed : (how : Ending) (written : List ℕ) → TripleSays program t e s how written → Replayed how written
     ends_replayed _ _ (traces.unmet how written is) = unexecuted how written is
