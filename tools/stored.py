@@ -6,7 +6,7 @@ import re
 TOP = os.path.dirname(os.path.dirname(os.path.abspath(__file__)))
 EXAMPLES = os.path.join(TOP, "examples")
 DOCS = os.path.join(TOP, "docs")
-MODES = ("check", "replay", "format", "ws2s", "judge", "meet", "run", "gen")
+MODES = ("check", "replay", "format", "ws2s", "judge", "meet", "run", "trace", "gen")
 
 
 def read(path):

@@ -17,6 +17,10 @@ use Rattle.pale_run.specs.declared.answer.Answer as run
 use Rattle.pale_run.specs.declared.answer.Answer.TheVariants as run_answer
 use Rattle.pale_modes.specs.Running.{Runs}
 use Rattle.pale_modes.specs.Running as running
+use Rattle.pale_trace.specs.declared.ending.Ending.{Ending}
+use Rattle.pale_trace.specs.declared.ending.Ending.TheVariants as ending
+use Rattle.pale_modes.specs.Tracing.{Traces}
+use Rattle.pale_modes.specs.Tracing as tracing
 
 -- an output has one of these
 abbrev pub IsGiven : Status → Type 0
@@ -53,6 +57,20 @@ pub run_given : (text output : List ℕ) (status : Status) → Runs text output 
 run_given text output status (running.too_long more) = tt
 run_given text output status (running.refused refusal within stop) = tt
 run_given text output status (running.run a written within is) = run_answer_given a
+
+ending_given : (how : Ending) → IsGiven (tracing.status_of how)
+ending_given (ending.StoreRefused line kind) = tt
+ending_given (ending.NotWellFormed wrong) = tt
+ending_given ending.StartFalse = tt
+ending_given (ending.Fails why line) = tt
+ending_given (ending.Ends line) = tt
+ending_given ending.Running = tt
+ending_given ending.Exits = tt
+
+pub traced_given : (text output : List ℕ) (status : Status) → Traces text output status → IsGiven status
+traced_given text output status (tracing.too_long more) = tt
+traced_given text output status (tracing.refused refusal within stop) = tt
+traced_given text output status (tracing.trace how written within is) = ending_given how
 
 pub formatted_given : (text output : List ℕ) (status : Status) → Formats text output status → IsGiven status
 formatted_given text output status (formatting.too_long more) = tt

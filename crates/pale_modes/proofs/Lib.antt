@@ -5,4 +5,5 @@ pub mod WrittenLemmas
 pub mod CutLemmas
 pub mod ReplayedLemmas
 pub mod RanLemmas
+pub mod TracedLemmas
 mod DecidedLemmas

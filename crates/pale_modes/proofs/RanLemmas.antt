@@ -28,12 +28,12 @@ use Rattle.pale_modes.proofs.ReplayedLemmas.{Laws}
 
 module _ (program : TypedProgram) where
   -- a line names one run
-  record Same (number steps : ℕ) (e : ProcEntry) (other more : ℕ) (d : ProcEntry) : Type 0 where
-    numbers : number ≡ other
-    counts : steps ≡ more
-    entries : e ≡ d
+  pub record Same (number steps : ℕ) (e : ProcEntry) (other more : ℕ) (d : ProcEntry) : Type 0 where
+    pub numbers : number ≡ other
+    pub counts : steps ≡ more
+    pub entries : e ≡ d
 
-  one_named : (line : List ℕ) (number steps other more : ℕ) (e d : ProcEntry) → NamesRun program line number steps e →
+  pub one_named : (line : List ℕ) (number steps other more : ℕ) (e d : ProcEntry) → NamesRun program line number steps e →
       NamesRun program line other more d → Same number steps e other more d
   one_named line number steps other more e d one two =
       let same = one_run line one.name two.name steps more one.spelled two.spelled in
@@ -46,7 +46,7 @@ module _ (program : TypedProgram) where
 
   module _ (first : List ℕ) (rest : List (List ℕ)) (number steps : ℕ) (e : ProcEntry) (s : StoreMap) (named : NamesRun program first number steps e)
       (reads : read_text program.types e.vars rest ≡ Ok s) where
-    not-unnamed : (kind : StoreKind) → NamesNoRun program first kind → ⊥
+    pub not-unnamed : (kind : StoreKind) → NamesNoRun program first kind → ⊥
     not-unnamed _ (no_form none) = none named.name steps named.spelled
     not-unnamed _ (no_procedure name many spelled none) =
         let same = one_run first name named.name many steps spelled named.spelled in

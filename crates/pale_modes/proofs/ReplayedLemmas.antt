@@ -32,10 +32,10 @@ one-number line n m one other =
     same_Some n m (sym one.counted ∙ ap number_of same ∙ other.counted)
 
 module _ (program : TypedProgram) (triples : List Triple) where
-  one-place : (line : List ℕ) (p q : ℕ) → IsTripleLine line (suc p) → IsTripleLine line (suc q) → p ≡ q
+  pub one-place : (line : List ℕ) (p q : ℕ) → IsTripleLine line (suc p) → IsTripleLine line (suc q) → p ≡ q
   one-place line p q one other = let same = one-number line (suc p) (suc q) one other in omega (arith, same)
 
-  one-triple : (line : List ℕ) (t u : Triple) (e d : ProcEntry) → NamesTriple program triples line t e → NamesTriple program triples line u d →
+  pub one-triple : (line : List ℕ) (t u : Triple) (e d : ProcEntry) → NamesTriple program triples line t e → NamesTriple program triples line u d →
       (t ≡ u) × (e ≡ d)
   one-triple line t u e d one other =
       let place = one-place line one.place other.place one.number other.number in

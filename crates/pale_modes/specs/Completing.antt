@@ -1,5 +1,5 @@
--- Texts without a fault, of which something is said whatever their size: in the modes `replay` and `run` of the store that they spell,
--- and in the mode `ws2s` where their Peak is within the limit.
+-- Texts without a fault, of which something is said whatever their size: in the modes `replay`, `run` and `trace` of the store that they
+-- spell, and in the mode `ws2s` where their Peak is within the limit.
 use Rattle.std.specs.Prelude.{◌≡◌, ℕ, List, ◌∷◌, Ok}
 use Rattle.store_core.specs.Tables.{TypeEntry, VarEntry}
 use Rattle.store_core.specs.Stores.{StoreMap}
@@ -18,6 +18,8 @@ use Rattle.pale_run.specs.declared.answer.Answer as run
 use Rattle.pale_run.specs.Running.{NamesRun}
 use Rattle.pale_run.specs.Runs.{RunsFrom}
 use Rattle.pale_run.specs.Lines.{text_of}
+use Rattle.pale_trace.specs.declared.ending.Ending.{Ending}
+use Rattle.pale_trace.specs.Traces.{TripleSays, RunSays}
 use Rattle.ws2s_syntax.specs.Checked as checked
 use Rattle.ws2s_read.specs.TextReading.{IsReadAs}
 use Rattle.ws2s_answer.specs.Within.{IsPeakWithin}
@@ -25,6 +27,7 @@ use Rattle.pale_modes.specs.declared.status.Status.{Status}
 use Rattle.pale_modes.specs.Deciding.{HasSmallFormulas}
 use Rattle.pale_modes.specs.Replaying.{status_of}
 use Rattle.pale_modes.specs.Running as running
+use Rattle.pale_modes.specs.Tracing as tracing
 
 -- the text is that of a program without a fault, a line `---`, a line that names this triple of this procedure, and the text of
 -- this store
@@ -67,6 +70,18 @@ pub record TellsRun (program : TypedProgram) (number steps : ℕ) (e : ProcEntry
   pub comes : RunsFrom program number steps e s answer
   pub told : written ≡ text_of program.types e.vars answer
   pub ends : status ≡ running.status_of answer
+
+-- the text that is written and the status are those of a trace of the store, in the triple or in the procedure's run
+pub record TellsTrace (Says : Ending → List ℕ → Type 0) (written : List ℕ) (status : Status) : Type 0 where
+  pub how : Ending
+  pub says : Says how written
+  pub ends : status ≡ tracing.status_of how
+
+abbrev pub TellsTriple : TypedProgram → Triple → ProcEntry → StoreMap → List ℕ → Status → Type 0
+TellsTriple program t e s = TellsTrace (TripleSays program t e s)
+
+abbrev pub TellsRunTrace : TypedProgram → ℕ → ℕ → ProcEntry → StoreMap → List ℕ → Status → Type 0
+TellsRunTrace program number steps e s = TellsTrace (RunSays program number steps e s)
 
 -- the text is that of this tree, both of whose formulas are small enough to be decided, and whose Peak isn't above the limit
 pub record IsWithinPeak (limit : ℕ) (text : List ℕ) (tree : checked.Text) : Type 0 where

@@ -6,4 +6,5 @@ pub mod Report
 pub mod Running
 pub mod Statuses
 pub mod Texts
+pub mod Tracing
 pub mod Written

@@ -1,9 +1,10 @@
-//! The modes that judge no program: `replay`, `run`, `format` and `ws2s`, each over a text and a sink of bytes, and what every mode
-//! shares: the status of a call, the lines and numbers that any mode may write, and how a call ends after what its sink left.
+//! The modes that judge no program: `replay`, `run`, `trace`, `format` and `ws2s`, each over a text and a sink of bytes, and what
+//! every mode shares: the status of a call, the lines and numbers that any mode may write, and how a call ends after what its sink
+//! left.
 //!
-//! `specs/Replaying.antt`, `specs/Running.antt`, `specs/Formatting.antt` and `specs/Deciding.antt` say what each of the four writes
-//! for a text and with which status; `specs/Written.antt` says what a sink was told of an allowed output, and `specs/Completing.antt` of which
-//! texts something is said whatever their size.
+//! `specs/Replaying.antt`, `specs/Running.antt`, `specs/Tracing.antt`, `specs/Formatting.antt` and `specs/Deciding.antt` say what each
+//! of the five writes for a text and with which status; `specs/Written.antt` says what a sink was told of an allowed output, and
+//! `specs/Completing.antt` of which texts something is said whatever their size.
 #![tactic(auto)]
 
 mod completing;
@@ -14,6 +15,7 @@ mod replay;
 mod report;
 mod run;
 mod status;
+mod trace;
 mod writing;
 
 pub use completing::texts_within_their_peaks_are_decided;
@@ -25,4 +27,5 @@ pub use report::refuse;
 pub use run::run_text;
 pub use status::Status;
 pub use store_words::push_number;
+pub use trace::trace_text;
 pub use writing::{ended, say};

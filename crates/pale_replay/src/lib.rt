@@ -10,4 +10,5 @@ mod replaying;
 mod stores;
 
 pub use answer::{Answer, Replay};
+pub use lines::end_line;
 pub use replaying::replay;

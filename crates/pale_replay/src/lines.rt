@@ -1,9 +1,9 @@
 //! The line that is written of a replay.
 
-ghost use Rattle.std.specs.Prelude.{◌≡◌, ◌++◌, codes, IfOk};
-ghost use Rattle.std.specs.Fmt.{decimal};
+ghost use Rattle.std.specs.Prelude.{◌≡◌, IfOk};
 ghost use Rattle.pale_starts.specs.Lines.{store_refused_line};
 ghost use Rattle.pale_replay.specs.Lines.{line_of};
+ghost use Rattle.pale_replay.specs.Lines as lines;
 
 use crate::answer::{Answer, Replay};
 use pale_starts::{fail_line, fault_line, refused_line, start_false_line};
@@ -13,8 +13,12 @@ use store_text::StoreKind;
 use store_words::push_number;
 
 /// `end line M`
-fn end_line(alloc: Global, line: u32) -> Result<Vec<u8>, AllocError>
-    ensures { IfOk result (λ text. text.items ≡ codes "end line " ++ decimal line ++ codes "\n") }
+///
+/// # Errors
+///
+/// Want of memory.
+pub fn end_line(alloc: Global, line: u32) -> Result<Vec<u8>, AllocError>
+    ensures { IfOk result (λ text. text.items ≡ lines.end_line line) }
 {
     let mut text = Vec::new(alloc);
     text.extend_from_slice(b"end line ")?;

@@ -11,17 +11,18 @@ use Rattle.pale_io.specs.declared.stops.WriteStop.TheVariants.{Failed, NoMemory}
 use Rattle.store_exec.specs.declared.triple.Triple.{Triple}
 use Rattle.pale_typed.specs.TypedPrograms.{TypedProgram}
 use Rattle.pale_words.specs.declared.words.Mode.{Mode}
-use Rattle.pale_words.specs.declared.words.Mode.TheVariants.{Check, Replay, Format, Ws2s, Judge, Meet, Run, Gen}
+use Rattle.pale_words.specs.declared.words.Mode.TheVariants.{Check, Replay, Format, Ws2s, Judge, Meet, Run, Trace, Gen}
 use Rattle.pale_words.specs.declared.words.Settings.{Settings}
 use Rattle.pale_words.specs.Words.{AsksFor, Gives, IsRefused}
 use Rattle.pale_words.proofs.GivesLemmas.{not_refused, same_mode}
 use Rattle.pale_modes.specs.declared.status.Status.{Status}
 use Rattle.pale_modes.specs.declared.status.Status.TheVariants.{Good, Bad, Words, Text, Limit, Memory, ReadFault, WriteFault}
-use Rattle.pale_modes.proofs.GivenLemmas.{IsGiven, decided_given, formatted_given, replayed_given, run_given}
+use Rattle.pale_modes.proofs.GivenLemmas.{IsGiven, decided_given, formatted_given, replayed_given, run_given, traced_given}
 use Rattle.pale_modes.proofs.WrittenLemmas.{Wrote-weaker, WroteAtMost-weaker}
 use Rattle.pale_modes.specs.Formatting as formatting
 use Rattle.pale_modes.specs.Replaying as replaying
 use Rattle.pale_modes.specs.Running as running
+use Rattle.pale_modes.specs.Tracing as tracing
 use Rattle.pale_modes.specs.Deciding as deciding
 use Rattle.pale_modes.specs.Written.{EndsBy, Wrote, WroteAtMost}
 use Rattle.pale_modes.specs.Report.{too_long_line}
@@ -44,7 +45,7 @@ use Rattle.pale_parts.specs.declared.request.Request.{Request}
 use Rattle.program_judge.specs.declared.ways.TripleWay.{TripleWay}
 use Rattle.program_judge.specs.declared.ways.TripleWay.TheVariants as tripled
 use Rattle.program_judge.specs.Reports.{stopped_ending}
-use Rattle.pale_top.specs.Output.{check, replay, format, ws2s, judge, meet, run, generated, refused, given}
+use Rattle.pale_top.specs.Output.{check, replay, format, ws2s, judge, meet, run, trace, generated, refused, given}
 use Rattle.pale_top.specs.Generating.{Gens, Tells}
 use Rattle.pale_top.specs.Generating as generating
 
@@ -153,6 +154,7 @@ output_given settings text output status (ws2s is written answer decides) = deci
 output_given settings text output status (judge is written answer judges) = judges_given settings.limit text output status judges
 output_given settings text output status (meet is written answer meets) = meets_given settings.limit text output status meets
 output_given settings text output status (run is written answer runs) = run_given text output status runs
+output_given settings text output status (trace is written answer traces) = traced_given text output status traces
 output_given settings text output status (generated is written answer gens) = generated_given settings.limit settings.seed output status gens
 
 -- each is an answer
@@ -238,6 +240,7 @@ too_long_output settings text reads more = by_mode settings.mode refl
     by_mode Judge is = judge is too_long_line Text (judging.too_long more)
     by_mode Meet is = meet is too_long_line Text (meeting.too_long more)
     by_mode Run is = run is too_long_line Text (running.too_long more)
+    by_mode Trace is = trace is too_long_line Text (tracing.too_long more)
     by_mode Gen is = absurd (reads is)
 
 -- ---- a call that says one line
@@ -281,6 +284,7 @@ generated_for_all settings asks text other output status (ws2s is written answer
 generated_for_all settings asks text other output status (judge is written answer judges) = (let bad : Gen ≡ Judge = sym asks ∙ is in absurd (cc))
 generated_for_all settings asks text other output status (meet is written answer meets) = (let bad : Gen ≡ Meet = sym asks ∙ is in absurd (cc))
 generated_for_all settings asks text other output status (run is written answer runs) = (let bad : Gen ≡ Run = sym asks ∙ is in absurd (cc))
+generated_for_all settings asks text other output status (trace is written answer traces) = (let bad : Gen ≡ Trace = sym asks ∙ is in absurd (cc))
 generated_for_all settings asks text other output status (generated is written answer gens) = generated is written answer gens
 
 -- what they give for one text they give for each

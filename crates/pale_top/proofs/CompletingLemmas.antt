@@ -13,7 +13,7 @@ use Rattle.ws2s_syntax.specs.Checked as checked
 use Rattle.pale_generator.specs.Generated.{program_text}
 use Rattle.pale_io.specs.Whole.{WritesAll}
 use Rattle.pale_words.specs.declared.words.Mode.{Mode}
-use Rattle.pale_words.specs.declared.words.Mode.TheVariants.{Check, Replay, Format, Ws2s, Judge, Meet, Run, Gen}
+use Rattle.pale_words.specs.declared.words.Mode.TheVariants.{Check, Replay, Format, Ws2s, Judge, Meet, Run, Trace, Gen}
 use Rattle.pale_words.specs.declared.words.Settings.{Settings}
 use Rattle.pale_words.specs.Words.{AsksFor, Gives, IsRefused}
 use Rattle.pale_words.proofs.GivesLemmas.{not_refused, same_limit, same_mode}
@@ -25,10 +25,12 @@ use Rattle.pale_modes.specs.Formatting.{Formats}
 use Rattle.pale_modes.specs.Formatting as formatting
 use Rattle.pale_modes.specs.Replaying.{Replays}
 use Rattle.pale_modes.specs.Running.{Runs}
+use Rattle.pale_modes.specs.Tracing.{Traces}
 use Rattle.pale_modes.specs.Texts.{most_bytes}
 use Rattle.pale_modes.specs.Written.{Wrote}
 use Rattle.pale_modes.proofs.ReplayedLemmas as replayed
 use Rattle.pale_modes.proofs.RanLemmas.{ran_so}
+use Rattle.pale_modes.proofs.TracedLemmas.{traced_so, run_traced_so}
 use Rattle.program_judge.specs.declared.ways.Ending.{Ending}
 use Rattle.program_judge.specs.declared.ways.FieldWay.{FieldWay}
 use Rattle.program_judge.specs.declared.ways.TripleWay.{TripleWay}
@@ -47,7 +49,7 @@ use Rattle.program_judge.specs.Meets.{ReportsMeets, AreStartsDecided}
 use Rattle.pale_top.proofs.JudgedLemmas as judged
 use Rattle.pale_top.specs.Generating.{Counts, Gens, Tells}
 use Rattle.pale_top.specs.Generating as generating
-use Rattle.pale_top.specs.Output.{CallOutput, Output, check, replay, format, ws2s, judge, meet, run, generated}
+use Rattle.pale_top.specs.Output.{CallOutput, Output, check, replay, format, ws2s, judge, meet, run, trace, generated}
 use Rattle.pale_top.specs.Output as called
 
 -- what the layers below say of readings, reports and outputs
@@ -86,6 +88,7 @@ OutputOf Ws2s limit seed text output status = Decides limit text output status
 OutputOf Judge limit seed text output status = Judges limit text output status
 OutputOf Meet limit seed text output status = MeetsText limit text output status
 OutputOf Run limit seed text output status = Runs text output status
+OutputOf Trace limit seed text output status = Traces text output status
 OutputOf Gen limit seed text output status = Gens limit seed output status
 
 output_of : (settings : Settings) (mode : Mode) → settings.mode ≡ mode → (text output : List ℕ) (status : Status) →
@@ -104,6 +107,8 @@ output_of settings mode asks text output status (meet is written answer meets) =
     subst (λ (m : Mode). OutputOf m settings.limit settings.seed text output status) (sym is ∙ asks) meets
 output_of settings mode asks text output status (run is written answer runs) =
     subst (λ (m : Mode). OutputOf m settings.limit settings.seed text output status) (sym is ∙ asks) runs
+output_of settings mode asks text output status (trace is written answer traces) =
+    subst (λ (m : Mode). OutputOf m settings.limit settings.seed text output status) (sym is ∙ asks) traces
 output_of settings mode asks text output status (generated is written answer gens) =
     subst (λ (m : Mode). OutputOf m settings.limit settings.seed text output status) (sym is ∙ asks) gens
 
@@ -169,6 +174,17 @@ module _ (laws : Laws) (text : List ℕ) (short : length text ≤ most_bytes) wh
     run = λ asks program number steps e s spells. record {
       output = wrote.output;
       allowed = ran_so (record { one = laws.one; apart = laws.apart }) text program number steps e s spells wrote.output status short (by Run asks);
+      written = wrote.written;
+    };
+    trace = λ asks program t e s spells. record {
+      output = wrote.output;
+      allowed = traced_so (record { one = laws.one; apart = laws.apart }) text program t e s spells wrote.output status short (by Trace asks);
+      written = wrote.written;
+    };
+    trace_run = λ asks program number steps e s spells. record {
+      output = wrote.output;
+      allowed = run_traced_so (record { one = laws.one; apart = laws.apart }) text program number steps e s spells wrote.output status short
+          (by Trace asks);
       written = wrote.written;
     };
     judge = λ asks program triples r spells. record {
@@ -247,6 +263,8 @@ none_completed settings gen text before after status = record {
   judge = λ asks program triples r spells. absurd (let bad : Judge ≡ Gen = sym asks ∙ gen in cc);
   meet = λ asks program triples read. absurd (let bad : Meet ≡ Gen = sym asks ∙ gen in cc);
   run = λ asks program number steps e s spells. absurd (let bad : Run ≡ Gen = sym asks ∙ gen in cc);
+  trace = λ asks program t e s spells. absurd (let bad : Trace ≡ Gen = sym asks ∙ gen in cc);
+  trace_run = λ asks program number steps e s spells. absurd (let bad : Trace ≡ Gen = sym asks ∙ gen in cc);
   replay = λ asks program t e s spells. absurd (let bad : Replay ≡ Gen = sym asks ∙ gen in cc);
   format = λ asks tree is. absurd (let bad : Format ≡ Gen = sym asks ∙ gen in cc);
 }

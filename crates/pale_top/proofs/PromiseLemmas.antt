@@ -5,7 +5,7 @@ use Rattle.pale_text.specs.declared.refusal.Refusal.{Refusal}
 use Rattle.store_exec.specs.declared.triple.Triple.{Triple}
 use Rattle.pale_typed.specs.TypedPrograms.{TypedProgram}
 use Rattle.whole_program.specs.ProgramTexts.{IsReadAs, IsRefusedAs}
-use Rattle.pale_words.specs.declared.words.Mode.TheVariants.{Check, Replay, Format, Ws2s, Judge, Meet, Run, Gen}
+use Rattle.pale_words.specs.declared.words.Mode.TheVariants.{Check, Replay, Format, Ws2s, Judge, Meet, Run, Trace, Gen}
 use Rattle.pale_words.specs.declared.words.Settings.{Settings}
 use Rattle.pale_words.specs.Words.{AsksFor, Gives}
 use Rattle.pale_words.proofs.GivesLemmas.{not_refused, same_limit, same_mode}
@@ -18,7 +18,7 @@ use Rattle.program_judge.specs.Reports.{ReportsProgram}
 use Rattle.program_promises.specs.Safety.{RunsNeverFail, IsSafe}
 use Rattle.program_promises.specs.Completeness.{ArePeaksWithin, IsWithinPeaks}
 use Rattle.pale_top.specs.Checking.{Checks, status_of, too_long, refused, judged}
-use Rattle.pale_top.specs.Output.{CallOutput, Output, check, replay, format, ws2s, judge, meet, run, generated}
+use Rattle.pale_top.specs.Output.{CallOutput, Output, check, replay, format, ws2s, judge, meet, run, trace, generated}
 use Rattle.pale_top.specs.Output as called
 
 -- ---- what the layers below say of reports
@@ -64,6 +64,7 @@ module _ (runs : SafeRuns) where
   safe_output settings asks text output status (judge is written answer judges) good = (let bad : Check ≡ Judge = sym asks ∙ is in absurd (cc))
   safe_output settings asks text output status (meet is written answer meets) good = (let bad : Check ≡ Meet = sym asks ∙ is in absurd (cc))
   safe_output settings asks text output status (run is written answer runs) good = (let bad : Check ≡ Run = sym asks ∙ is in absurd (cc))
+  safe_output settings asks text output status (trace is written answer traces) good = (let bad : Check ≡ Trace = sym asks ∙ is in absurd (cc))
   safe_output settings asks text output status (generated is written answer gens) good = (let bad : Check ≡ Gen = sym asks ∙ is in absurd (cc))
 
   pub safe_call : (words : List (List ℕ)) (text output : List ℕ) (status : Status) → CallOutput words text output status → status ≡ Good →
@@ -110,6 +111,8 @@ module _ (laws : Laws) where
       (let bad : Check ≡ Meet = sym asks ∙ is in absurd (cc))
   decided_output settings asks text output status (run is written answer runs) short within =
       (let bad : Check ≡ Run = sym asks ∙ is in absurd (cc))
+  decided_output settings asks text output status (trace is written answer traces) short within =
+      (let bad : Check ≡ Trace = sym asks ∙ is in absurd (cc))
   decided_output settings asks text output status (generated is written answer gens) short within =
       (let bad : Check ≡ Gen = sym asks ∙ is in absurd (cc))
 

@@ -1,6 +1,6 @@
 -- What a text without a fault gets, whatever its size: in `check` a verdict on each field and on each triple whose own Peak is within
 -- the limit, in `judge` the same for what is asked for, in `meet` on each field and start, in `ws2s` an answer
--- where its Peak is, and in `replay`, `run` and `format` an answer always.
+-- where its Peak is, and in `replay`, `run`, `trace` and `format` an answer always.
 use Rattle.std.specs.Prelude.{◌≡◌, ◌⊎◌, ◌++◌, ℕ, suc, true, false, List, [], length, slice_get, Some, Option}
 use Rattle.std.specs.List.{list_all}
 use Rattle.store_core.specs.Stores.{StoreMap}
@@ -18,11 +18,11 @@ use Rattle.pale_parts.specs.declared.request.Request.{Request}
 use Rattle.pale_parts.specs.declared.request.Request.TheVariants as request
 use Rattle.pale_parts.specs.Requests.{IsRequest}
 use Rattle.pale_io.specs.Whole.{WritesAll}
-use Rattle.pale_words.specs.declared.words.Mode.TheVariants.{Check, Replay, Format, Ws2s, Judge, Meet, Run}
+use Rattle.pale_words.specs.declared.words.Mode.TheVariants.{Check, Replay, Format, Ws2s, Judge, Meet, Run, Trace}
 use Rattle.pale_words.specs.declared.words.Settings.{Settings}
 use Rattle.pale_modes.specs.declared.status.Status.{Status}
 use Rattle.pale_modes.specs.declared.status.Status.TheVariants.{Good}
-use Rattle.pale_modes.specs.Completing.{SpellsStore, TellsStore, SpellsRun, TellsRun, IsWithinPeak}
+use Rattle.pale_modes.specs.Completing.{SpellsStore, TellsStore, SpellsRun, TellsRun, TellsTriple, TellsRunTrace, IsWithinPeak}
 use Rattle.pale_modes.specs.Deciding.{Says}
 use Rattle.pale_modes.specs.Written.{Wrote}
 use Rattle.program_judge.specs.declared.ways.FieldWay.{FieldWay}
@@ -87,6 +87,11 @@ pub record Completes (settings : Settings) (text : List ℕ) (before after : Opt
   -- of the store that it spells in the run of a procedure of its program, what comes of it
   pub run : settings.mode ≡ Run → (program : TypedProgram) (number steps : ℕ) (e : ProcEntry) (s : StoreMap) →
       SpellsRun text program number steps e s → Wrote (TellsRun program number steps e s) before after status
+  -- of that store, its trace in the triple, and in the run of a procedure
+  pub trace : settings.mode ≡ Trace → (program : TypedProgram) (t : Triple) (e : ProcEntry) (s : StoreMap) → SpellsStore text program t e s →
+      Wrote (TellsTriple program t e s) before after status
+  pub trace_run : settings.mode ≡ Trace → (program : TypedProgram) (number steps : ℕ) (e : ProcEntry) (s : StoreMap) →
+      SpellsRun text program number steps e s → Wrote (TellsRunTrace program number steps e s) before after status
   -- of what its one line behind `---` asks for of its program, such a report
   pub judge : settings.mode ≡ Judge → (program : TypedProgram) (triples : List Triple) (r : Request) → SpellsRequest text program triples r →
       Wrote (JudgesEach settings.limit program triples r) before after status

@@ -1,7 +1,7 @@
 -- What a call of the program writes and how it ends, by its words and by the text that its source had left.
 -- The definitions speak of texts and of what they are read as, and of no step that the program makes.
 use Rattle.std.specs.Prelude.{◌≡◌, ℕ, List, codes, Option, IfSome}
-use Rattle.pale_words.specs.declared.words.Mode.TheVariants.{Check, Replay, Format, Ws2s, Judge, Meet, Run, Gen}
+use Rattle.pale_words.specs.declared.words.Mode.TheVariants.{Check, Replay, Format, Ws2s, Judge, Meet, Run, Trace, Gen}
 use Rattle.pale_words.specs.declared.words.Settings.{Settings}
 use Rattle.pale_words.specs.Words.{Gives, IsRefused}
 use Rattle.pale_modes.specs.declared.status.Status.{Status}
@@ -10,6 +10,7 @@ use Rattle.pale_modes.specs.Deciding.{Decides}
 use Rattle.pale_modes.specs.Formatting.{Formats}
 use Rattle.pale_modes.specs.Replaying.{Replays}
 use Rattle.pale_modes.specs.Running.{Runs}
+use Rattle.pale_modes.specs.Tracing.{Traces}
 use Rattle.pale_modes.specs.Written.{Wrote, WroteAtMost}
 use Rattle.pale_top.specs.Checking.{Checks}
 use Rattle.pale_top.specs.Generating.{Gens}
@@ -31,6 +32,7 @@ pub data Output (settings : Settings) (text : List ℕ) : List ℕ → Status �
   judge : settings.mode ≡ Judge → (written : List ℕ) (status : Status) → Judges settings.limit text written status → Output settings text written status
   meet : settings.mode ≡ Meet → (written : List ℕ) (status : Status) → MeetsText settings.limit text written status → Output settings text written status
   run : settings.mode ≡ Run → (written : List ℕ) (status : Status) → Runs text written status → Output settings text written status
+  trace : settings.mode ≡ Trace → (written : List ℕ) (status : Status) → Traces text written status → Output settings text written status
   generated : settings.mode ≡ Gen → (written : List ℕ) (status : Status) → Gens settings.limit settings.seed written status
       → Output settings text written status
 

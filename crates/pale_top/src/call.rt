@@ -38,7 +38,8 @@ fn reads_text(alloc: Global, words: &Vec<String>) -> Result<bool, AllocError>
             | Mode::Ws2s
             | Mode::Judge
             | Mode::Meet
-            | Mode::Run => Ok(true),
+            | Mode::Run
+            | Mode::Trace => Ok(true),
         },
         Err(WordsStop::Refused) => Ok(false),
         Err(WordsStop::NoMemory) => Err(AllocError),

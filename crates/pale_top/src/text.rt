@@ -21,7 +21,7 @@ use crate::meet::meet_text;
 use pale_io::{Sink, WriteStop};
 use pale_modes::{
     Status, decide_text, ended, format_text, formatting_is_one, replay_text, run_text, say,
-    texts_within_their_peaks_are_decided,
+    texts_within_their_peaks_are_decided, trace_text,
 };
 use pale_words::{Mode, Settings, WordsStop, read_words};
 use program_judge::meet_laws::starts_are_told_within_their_peaks;
@@ -61,6 +61,7 @@ fn answer_text<K: Sink>(
         Mode::Judge => judge_text(alloc, settings.limit, text, passes, sink),
         Mode::Meet => meet_text(alloc, settings.limit, text, passes, sink),
         Mode::Run => run_text(alloc, text, sink),
+        Mode::Trace => trace_text(alloc, text, sink),
         Mode::Gen => unreachable!(),
     }
 }
@@ -87,7 +88,8 @@ fn obey<K: Sink>(
         | Mode::Ws2s
         | Mode::Judge
         | Mode::Meet
-        | Mode::Run => answer_text(alloc, settings, text, passes, sink),
+        | Mode::Run
+        | Mode::Trace => answer_text(alloc, settings, text, passes, sink),
     }
 }
 

@@ -21,7 +21,7 @@ use Rattle.clap.specs.declared.parser.matches.ArgMatches.{ArgMatches}
 use Rattle.clap.proofs.CallerLemmas.{default_present, present_has_entry, required_present}
 use Rattle.clap.proofs.WalkLemmas.{first_value-rows, list_any-map, one_text-rows}
 use Rattle.pale_words.specs.declared.words.Mode.{Mode}
-use Rattle.pale_words.specs.declared.words.Mode.TheVariants.{Check, Replay, Format, Ws2s, Judge, Meet, Run, Gen}
+use Rattle.pale_words.specs.declared.words.Mode.TheVariants.{Check, Replay, Format, Ws2s, Judge, Meet, Run, Trace, Gen}
 use Rattle.pale_words.specs.Words.{HasMode, HasNumber, HasValues, IsModeParser, command_with, mode_name, mode_names}
 use Rattle.pale_words.proofs.ArgsLemmas.{globals, id_is, negates, plain, required, rules_of, some_arg, takes, three, wants_default}
 use Rattle.pale_words.proofs.ValueLemmas.{value_held}
@@ -43,21 +43,25 @@ entry_found (x ∷ xs) id has = go has.0 has.1 has.2 (bytes_eq x.0.now id) refl 
 named_mode : (t : Text) → list_any (λ name. same_text false name t) mode_names ≡ true → (mode : Mode) × (t ≡ mode_name mode)
 named_mode t among =
     go (bytes_eq (codes "check") t) (bytes_eq (codes "replay") t) (bytes_eq (codes "format") t) (bytes_eq (codes "ws2s") t)
-    (bytes_eq (codes "judge") t) (bytes_eq (codes "meet") t) (bytes_eq (codes "run") t) (bytes_eq (codes "gen") t) refl refl refl refl refl refl refl refl among
+    (bytes_eq (codes "judge") t) (bytes_eq (codes "meet") t) (bytes_eq (codes "run") t) (bytes_eq (codes "trace") t) (bytes_eq (codes "gen") t)
+    refl refl refl refl refl refl refl refl refl among
   where
-    go : (check replay format ws2s judge meet run gen : Bool) → bytes_eq (codes "check") t ≡ check → bytes_eq (codes "replay") t ≡ replay
+    go : (check replay format ws2s judge meet run trace gen : Bool) → bytes_eq (codes "check") t ≡ check → bytes_eq (codes "replay") t ≡ replay
         → bytes_eq (codes "format") t ≡ format → bytes_eq (codes "ws2s") t ≡ ws2s → bytes_eq (codes "judge") t ≡ judge
-        → bytes_eq (codes "meet") t ≡ meet → bytes_eq (codes "run") t ≡ run → bytes_eq (codes "gen") t ≡ gen
-        → (check || (replay || (format || (ws2s || (judge || (meet || (run || (gen || false)))))))) ≡ true → (mode : Mode) × (t ≡ mode_name mode)
-    go true b c d e f g h same is_b is_c is_d is_e is_f is_g is_h some = (Check, sym ((bytes_eq-Decides (codes "check") t).0 same))
-    go false true c d e f g h is_a same is_c is_d is_e is_f is_g is_h some = (Replay, sym ((bytes_eq-Decides (codes "replay") t).0 same))
-    go false false true d e f g h is_a is_b same is_d is_e is_f is_g is_h some = (Format, sym ((bytes_eq-Decides (codes "format") t).0 same))
-    go false false false true e f g h is_a is_b is_c same is_e is_f is_g is_h some = (Ws2s, sym ((bytes_eq-Decides (codes "ws2s") t).0 same))
-    go false false false false true f g h is_a is_b is_c is_d same is_f is_g is_h some = (Judge, sym ((bytes_eq-Decides (codes "judge") t).0 same))
-    go false false false false false true g h is_a is_b is_c is_d is_e same is_g is_h some = (Meet, sym ((bytes_eq-Decides (codes "meet") t).0 same))
-    go false false false false false false true h is_a is_b is_c is_d is_e is_f same is_h some = (Run, sym ((bytes_eq-Decides (codes "run") t).0 same))
-    go false false false false false false false true is_a is_b is_c is_d is_e is_f is_g same some = (Gen, sym ((bytes_eq-Decides (codes "gen") t).0 same))
-    go false false false false false false false false is_a is_b is_c is_d is_e is_f is_g is_h some = absurd (true≢false (sym some))
+        → bytes_eq (codes "meet") t ≡ meet → bytes_eq (codes "run") t ≡ run → bytes_eq (codes "trace") t ≡ trace → bytes_eq (codes "gen") t ≡ gen
+        → (check || (replay || (format || (ws2s || (judge || (meet || (run || (trace || (gen || false))))))))) ≡ true → (mode : Mode) × (t ≡ mode_name mode)
+    go true b c d e f g h i same is_b is_c is_d is_e is_f is_g is_h is_i some = (Check, sym ((bytes_eq-Decides (codes "check") t).0 same))
+    go false true c d e f g h i is_a same is_c is_d is_e is_f is_g is_h is_i some = (Replay, sym ((bytes_eq-Decides (codes "replay") t).0 same))
+    go false false true d e f g h i is_a is_b same is_d is_e is_f is_g is_h is_i some = (Format, sym ((bytes_eq-Decides (codes "format") t).0 same))
+    go false false false true e f g h i is_a is_b is_c same is_e is_f is_g is_h is_i some = (Ws2s, sym ((bytes_eq-Decides (codes "ws2s") t).0 same))
+    go false false false false true f g h i is_a is_b is_c is_d same is_f is_g is_h is_i some = (Judge, sym ((bytes_eq-Decides (codes "judge") t).0 same))
+    go false false false false false true g h i is_a is_b is_c is_d is_e same is_g is_h is_i some = (Meet, sym ((bytes_eq-Decides (codes "meet") t).0 same))
+    go false false false false false false true h i is_a is_b is_c is_d is_e is_f same is_h is_i some = (Run, sym ((bytes_eq-Decides (codes "run") t).0 same))
+    go false false false false false false false true i is_a is_b is_c is_d is_e is_f is_g same is_i some =
+        (Trace, sym ((bytes_eq-Decides (codes "trace") t).0 same))
+    go false false false false false false false false true is_a is_b is_c is_d is_e is_f is_g is_h same some =
+        (Gen, sym ((bytes_eq-Decides (codes "gen") t).0 same))
+    go false false false false false false false false false is_a is_b is_c is_d is_e is_f is_g is_h is_i some = absurd (true≢false (sym some))
 
 accepted_mode : (parser : ValueParser) → IsModeParser parser → (t : Text) → Accepts false parser t → (mode : Mode) × (t ≡ mode_name mode)
 accepted_mode parser is t accepted =

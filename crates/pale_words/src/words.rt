@@ -25,6 +25,8 @@ pub enum Mode {
     Meet,
     /// Runs a procedure of a program, with its loops and calls, from a store.
     Run,
+    /// Shows each step of a store's execution through a triple, or of a procedure's run.
+    Trace,
     /// Judges the generator's program of a seed.
     Gen,
 }
@@ -62,8 +64,8 @@ ghost use Rattle.clap.specs.declared.builder.value_parser.ValueParser.TheVariant
 ghost use Rattle.pale_words.specs.Words.{Gives, HasMode, HasNumber, HasSettings, HasValues, number_of, mode_rule, number_rule, IsRefused, IsModeParser};
 ghost use Rattle.pale_words.specs.Words.{mode_name, command_with};
 
-static MODE_NAMES: [&str; 8] = [
-    "check", "replay", "format", "ws2s", "judge", "meet", "run", "gen",
+static MODE_NAMES: [&str; 9] = [
+    "check", "replay", "format", "ws2s", "judge", "meet", "run", "trace", "gen",
 ];
 
 impl Mode {
@@ -80,6 +82,7 @@ impl Mode {
             "judge" => Some(Mode::Judge),
             "meet" => Some(Mode::Meet),
             "run" => Some(Mode::Run),
+            "trace" => Some(Mode::Trace),
             "gen" => Some(Mode::Gen),
             _ => None,
         }

@@ -1,4 +1,9 @@
 mod TruthLemmas
 mod PlaceLemmas
-mod AnswerLemmas
+mod BelowLemmas
 mod StandingLemmas
+mod RecordingLemmas
+mod CodeRecordings
+mod ShowingLemmas
+mod FieldLemmas
+mod TripleLemmas

@@ -1,15 +1,19 @@
 -- How the truth of a condition is found part by part.
-use Rattle.std.specs.Prelude.{◌≡◌, ◌+◌, ◌<◌, ℕ, Bool, true, false, not, List, [], ◌∷◌, sum_by, Result, Ok, Err, if◌then◌else◌}
-use Rattle.store_core.specs.Stores.{StoreMap}
+use Rattle.std.specs.Prelude.{◌≡◌, ◌+◌, ◌<◌, ℕ, Bool, true, false, not, List, [], ◌∷◌, sum_by, Option, is_some, Result, Ok, Err, if◌then◌else◌}
+use Rattle.store_core.specs.declared.ids.FieldId.{FieldId}
+use Rattle.store_core.specs.declared.ids.CellId.{CellId}
+use Rattle.store_core.specs.declared.value.Value.TheVariants as value
+use Rattle.store_core.specs.Stores.{StoreMap, field_value}
 use Rattle.store_logic.specs.PostfixConds.{form_count}
 use Rattle.store_exec.specs.declared.cause.Cause.{Cause}
+use Rattle.store_exec.specs.declared.cause.Cause.TheVariants as cause
 use Rattle.store_exec.specs.declared.halt.Halt.{Halt}
 use Rattle.store_exec.specs.declared.halt.Halt.TheVariants as halt
 use Rattle.store_runner.specs.declared.truth.Waiting.{Waiting}
 use Rattle.store_runner.specs.declared.truth.Waiting.TheVariants as waiting
 use Rattle.store_runner.specs.declared.truth.Next.{Next}
 use Rattle.store_runner.specs.declared.truth.Next.TheVariants as next
-use Rattle.store_exec.specs.Steps.{and_then, made_of, truth_of}
+use Rattle.store_exec.specs.Steps.{and_then, made_of, cell_through, truth_of}
 
 -- the answer is the one that is defined, by what is made of its value, or want of memory
 abbrev pub IsToldBy : {X Y : Type 0} → (X → Y) → Result Y Cause → Result X Halt → Type 0
@@ -52,3 +56,7 @@ abbrev pub Resumes : StoreMap → List Waiting → Bool → List Waiting → Nex
 Resumes s old part new (next.Told truth) = resumed s old (Ok part) ≡ Ok truth
 Resumes s old part new (next.Read cond) =
     (resumed s old (Ok part) ≡ resumed s new (truth_of s cond.now)) × (form_count cond.now + weight_of new < weight_of old)
+
+-- the live cell of which a field is written, which has it
+abbrev pub cell_written : StoreMap → Option CellId → FieldId → Result CellId Cause
+cell_written s through f = and_then (λ c. if is_some (field_value s c f) then Ok c else Err cause.Variant) (cell_through s (value.Cell through))

@@ -1,1 +1,3 @@
 pub mod Conditions
+pub mod Recordings
+pub mod Assigning

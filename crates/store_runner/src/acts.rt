@@ -1,21 +1,23 @@
 //! Acts on a store.
 
-ghost use Rattle.std.specs.Prelude.{◌≡◌, ◌<◌, ◌+◌, ℕ, IfSome, OnOk, Some, Contains};
-ghost use Rattle.store_core.specs.declared.ids.CellId.{CellId};
-ghost use Rattle.store_core.specs.declared.value.Value.{Value};
+ghost use Rattle.std.specs.Prelude.{◌≡◌, ◌<◌, IfSome, Some};
+ghost use Rattle.store_core.specs.declared.value.Class.TheVariants.{Reference};
 ghost use Rattle.store_core.specs.declared.value.Value.TheVariants as value;
-ghost use Rattle.store_core.specs.Stores.{class_of, field_value, var_value};
+ghost use Rattle.store_core.specs.Stores.{IsFresh, class_of, field_value, put_cell};
+ghost use Rattle.store_logic.specs.declared.act.Rhs.TheVariants as rhs;
 ghost use Rattle.store_logic.specs.Terms.{null, cell_in};
 ghost use Rattle.store_exec.specs.Steps as steps;
 ghost use Rattle.store_exec.specs.Steps.{assigned, made_of, Step};
-ghost use Rattle.store_runner.specs.Conditions.{IsTold, IsToldBy, Leads};
+ghost use Rattle.store_runner.specs.Conditions.{IsTold, IsToldBy, Leads, cell_written};
+ghost use Rattle.store_runner.specs.Recordings.{IsKept};
 ghost use Rattle.store_exec.specs.Ready.{IsKnownRhs, TakesClass, TakesFieldClass, field_assigned, IsReady, Steps, Asserts};
+ghost use Rattle.store_runner.specs.Assigning.{MakesNothing, GivesClass, cell_assigned};
 
 use crate::reading::{cell_through, operand_value, read_along, variable};
 use crate::truth::{cell_of, truth};
 use plain_data::Stack;
 use std::alloc::{AllocError, Global};
-use store_core::{CellId, FieldId, Store, TypeTable, Value, VarId};
+use store_core::{CellId, FieldId, Store, TypeTable, Value, VarId, VariantId};
 use store_exec::{Cause, Halt};
 use store_logic::{Act, Assertion, Path, Region, Rhs};
 use store_sat::sat;
@@ -30,12 +32,25 @@ fn evaluate(
 ) -> Result<Value, Halt>
     requires nothing { nothing.now ≡ null }
     requires known { IsKnownRhs types.now store.old rhs.now }
-    ensures { IsToldBy (λ x. (store.new, x)) (steps.evaluated types.now store.old rhs.now) result }
+    ensures told { IsToldBy (λ x. (store.new, x)) (steps.evaluated types.now store.old rhs.now) result }
+    ensures same { MakesNothing rhs.now → store.new ≡ store.old }
+    ensures kept { IsKept store.old store.new result }
 {
     match rhs {
         Rhs::Cell(operand) => Ok(operand_value(store, nothing, operand)?.copy(alloc)?),
         Rhs::New(variant) => Ok(Value::Cell(Some(store.put_cell(types, *variant)?))),
         Rhs::Truth(cond) => Ok(Value::Bool(truth(alloc, store, nothing, cond)?)),
+    }
+}
+
+/// The live cell of which a field is written, which has it.
+fn written_cell(store: &Store, through: Option<CellId>, field: FieldId) -> Result<CellId, Cause>
+    ensures { result ≡ cell_written store.now through field }
+{
+    let cell = cell_through(store, &Value::Cell(through))?;
+    match store.field(cell, field) {
+        Some(_) => Ok(cell),
+        None => Err(Cause::Variant),
     }
 }
 
@@ -47,17 +62,66 @@ fn write(
     stored: Value,
 ) -> Result<(), Halt>
     requires { IfSome through (λ c. IfSome (field_value store.old c field) (λ old. class_of stored ≡ class_of old)) }
-    ensures { Leads store.new (steps.written store.old (value.Cell through) field stored) result }
+    ensures leads { Leads store.new (steps.written store.old (value.Cell through) field stored) result }
+    ensures kept { IsKept store.old store.new result }
 {
-    let cell = cell_through(store, &Value::Cell(through))?;
-    if store.field(cell, field).is_none() {
-        return Err(Halt::Fails(Cause::Variant));
+    match written_cell(store, through, field) {
+        Ok(cell) => {
+            store.set_field(cell, field, stored);
+            Ok(())
+        }
+        Err(cause) => Err(Halt::Fails(cause)),
     }
-    store.set_field(cell, field, stored);
-    Ok(())
 }
 
-/// Assigns to a field: the cells before it are read, then what is assigned, and then the field is written.
+/// Makes a cell and stores it in a field of what is written through. Where that can't be done no cell is made.
+fn write_new(
+    types: &TypeTable,
+    store: &mut Store,
+    through: Option<CellId>,
+    field: FieldId,
+    variant: VariantId,
+) -> Result<(), Halt>
+    requires known { IsKnownRhs types.now store.old (rhs.New variant) }
+    requires below { IfSome through (λ c. c.0 < store.old.next) }
+    requires class { IfSome through (λ c. IfSome (field_value store.old c field) (λ old. class_of old ≡ Reference)) }
+    ensures leads { Leads store.new (steps.written (put_cell store.old types.now variant) (value.Cell through) field
+        (value.Cell (Some (record { 0 = store.old.next })))) result }
+    ensures kept { IsKept store.old store.new result }
+{
+    match written_cell(store, through, field) {
+        Ok(cell) => {
+            let made = store.put_cell(types, variant)?;
+            store.set_field(cell, field, Value::Cell(Some(made)));
+            Ok(())
+        }
+        Err(cause) => Err(Halt::Fails(cause)),
+    }
+}
+
+/// Assigns what is no new cell to a field of what is written through.
+fn assign_given(
+    alloc: Global,
+    types: &TypeTable,
+    nothing: &Value,
+    through: Option<CellId>,
+    last: FieldId,
+    rhs: &Rhs,
+    store: &mut Store,
+) -> Result<(), Halt>
+    requires nothing { nothing.now ≡ null }
+    requires known { IsKnownRhs types.now store.old rhs.now }
+    requires old { MakesNothing rhs.now }
+    requires class { GivesClass types.now store.old through last rhs.now }
+    ensures leads { Leads store.new (cell_assigned types.now store.old through last rhs.now) result }
+    ensures kept { IsKept store.old store.new result }
+{
+    let value = evaluate(alloc, types, nothing, rhs, store)?;
+    write(store, through, last, value)
+}
+
+/// Assigns to a field: the cells before it are read, then what is assigned, and then the field is written. Where that fails no cell is
+/// made.
 fn assign_field(
     alloc: Global,
     types: &TypeTable,
@@ -69,13 +133,19 @@ fn assign_field(
     store: &mut Store,
 ) -> Result<(), Halt>
     requires nothing { nothing.now ≡ null }
+    requires fresh { IsFresh store.old }
     requires known { IsKnownRhs types.now store.old rhs.now }
     requires class { TakesFieldClass types.now store.old var before.now last rhs.now }
-    ensures { Leads store.new (field_assigned types.now store.old var before.now last rhs.now) result }
+    ensures leads { Leads store.new (field_assigned types.now store.old var before.now last rhs.now) result }
+    ensures kept { IsKept store.old store.new result }
 {
     let through = cell_at(store, nothing, var, before)?;
-    let value = evaluate(alloc, types, nothing, rhs, store)?;
-    write(store, through, last, value)
+    match rhs {
+        Rhs::New(variant) => write_new(types, store, through, last, *variant),
+        Rhs::Cell(_) | Rhs::Truth(_) => {
+            assign_given(alloc, types, nothing, through, last, rhs, store)
+        }
+    }
 }
 
 /// The cell to which the fields lead from a variable, null for a truth value.
@@ -104,9 +174,11 @@ fn assign(
     store: &mut Store,
 ) -> Result<(), Halt>
     requires nothing { nothing.now ≡ null }
+    requires fresh { IsFresh store.old }
     requires known { IsKnownRhs types.now store.old rhs.now }
     requires class { TakesClass types.now store.old place.now rhs.now }
-    ensures { Leads store.new (assigned types.now store.old place.now.var place.now.fields rhs.now) result }
+    ensures leads { Leads store.new (assigned types.now store.old place.now.var place.now.fields rhs.now) result }
+    ensures kept { IsKept store.old store.new result }
 {
     match place.fields.as_slice().split_last() {
         None => {
@@ -122,7 +194,8 @@ fn assign(
 
 /// Frees the cell that a value is.
 fn free(store: &mut Store, freed: Option<CellId>) -> Result<(), Halt>
-    ensures { Leads store.new (steps.freed store.old (value.Cell freed)) result }
+    ensures leads { Leads store.new (steps.freed store.old (value.Cell freed)) result }
+    ensures kept { IsKept store.old store.new result }
 {
     let Some(cell) = freed else {
         return Err(Halt::Fails(Cause::Null));
@@ -134,7 +207,7 @@ fn free(store: &mut Store, freed: Option<CellId>) -> Result<(), Halt>
     Ok(())
 }
 
-/// Executes an act on a store.
+/// Executes an act on a store, which is the same where it fails.
 pub(crate) fn step(
     alloc: Global,
     types: &TypeTable,
@@ -143,8 +216,10 @@ pub(crate) fn step(
     store: &mut Store,
 ) -> Result<(), Halt>
     requires nothing { nothing.now ≡ null }
+    requires fresh { IsFresh store.old }
     requires ready { IsReady types.now store.old act.now }
-    ensures { Steps types.now store.old act.now store.new result }
+    ensures steps { Steps types.now store.old act.now store.new result }
+    ensures kept { IsKept store.old store.new result }
 {
     match act {
         Act::Assign(place, rhs) => assign(alloc, types, nothing, place, rhs, store),

@@ -5,36 +5,51 @@ ghost use Rattle.store_logic.specs.Terms.{null};
 ghost use Rattle.store_exec.specs.declared.outcome.Outcome.TheVariants as outcome;
 ghost use Rattle.store_exec.specs.Runs.{RunsCode};
 ghost use Rattle.store_exec.specs.Fits.{CanRunCode};
-ghost use Rattle.store_exec.specs.Going.{IsTruthAt};
+ghost use Rattle.store_trace.specs.Tracing.{TracesCode};
+ghost use Rattle.store_runner.specs.Recordings.{Records};
 
-use crate::items::{at_line, run_items};
-use crate::truth::truth;
+use crate::items::{run_items, tell};
 use std::alloc::{AllocError, Global};
 use store_core::{Store, TypeTable, Value};
 use store_exec::{Code, Fault, Outcome, Tail};
-use store_logic::Cond;
+use store_trace::{Recorder, Traced, traces_are_runs};
 
-/// The truth of the condition of a branch, with the line where it can't be told.
-fn truth_at(
+/// Executes a code on a store and records what it shows: to the place of a cut, or to a fault.
+fn go(
     alloc: Global,
-    store: &Store,
-    nothing: &Value,
-    line: u32,
-    cond: &Cond,
-) -> Result<Result<bool, Fault>, AllocError>
-    requires { nothing.now ≡ null }
-    ensures { IsTruthAt store.now line cond.now result }
+    types: &TypeTable,
+    code: &Code,
+    store: &mut Store,
+    recorder: &mut Recorder,
+) -> Result<Result<u32, Fault>, AllocError>
+    requires { CanRunCode types.now store.old code.now }
+    ensures { Records (TracesCode types.now code.now) store.old store.new recorder.old recorder.new result }
 {
-    at_line(line, truth(alloc, store, nothing, cond))
-}
-
-/// The end of a code at a cut. The freed cells are let go, so that each cell of the store is a look-up again.
-fn end_at(place: u32, at: Store) -> Outcome
-    ensures { result ≡ outcome.End place at }
-{
-    let mut at = at;
-    at.settle();
-    Outcome::End(place, at)
+    let nothing = Value::Cell(None);
+    let mut rest = code;
+    loop {
+        match run_items(
+            alloc,
+            types,
+            &nothing,
+            rest.items.as_slice(),
+            store,
+            recorder,
+        )? {
+            Ok(()) => {}
+            Err(fault) => return Ok(Err(fault)),
+        }
+        match &rest.tail {
+            Tail::Cut(place) => return Ok(Ok(*place)),
+            Tail::Branch(line, cond, taken, other) => {
+                match tell(alloc, store, &nothing, *line, cond, recorder)? {
+                    Ok(true) => rest = taken.get(),
+                    Ok(false) => rest = other.get(),
+                    Err(fault) => return Ok(Err(fault)),
+                }
+            }
+        }
+    }
 }
 
 /// Executes a code on a store: to a cut, or to a cause with its line. The store fits the tables and is fresh, and its next number
@@ -48,23 +63,33 @@ pub fn run(
     requires { CanRunCode types.now store code.now }
     ensures { IfOk result (RunsCode types.now code.now store) }
 {
-    let nothing = Value::Cell(None);
+    traces_are_runs();
     let mut at = store;
-    let mut rest = code;
-    loop {
-        match run_items(alloc, types, &nothing, rest.items.as_slice(), &mut at)? {
-            Ok(()) => {}
-            Err(fault) => return Ok(Outcome::Fail(fault.cause, fault.line)),
+    match go(alloc, types, code, &mut at, &mut Recorder::off(alloc))? {
+        Ok(place) => {
+            // The freed cells are let go, so that each cell of the store is a look-up again.
+            at.settle();
+            Ok(Outcome::End(place, at))
         }
-        match &rest.tail {
-            Tail::Cut(place) => return Ok(end_at(*place, at)),
-            Tail::Branch(line, cond, taken, other) => {
-                match truth_at(alloc, &at, &nothing, *line, cond)? {
-                    Ok(true) => rest = taken.get(),
-                    Ok(false) => rest = other.get(),
-                    Err(fault) => return Ok(Outcome::Fail(fault.cause, fault.line)),
-                }
-            }
-        }
+        Err(fault) => Ok(Outcome::Fail(fault.cause, fault.line)),
     }
+}
+
+/// The same, and what it shows: each act and each whole condition that was done, in order. Where it fails, `at` is the store before the
+/// act or condition that fails; and where it ends at a cut, whose place is the end, it is the store with which it arrives there.
+pub fn trace(
+    alloc: Global,
+    types: &TypeTable,
+    code: &Code,
+    store: Store,
+) -> Result<Traced, AllocError>
+    requires { CanRunCode types.now store code.now }
+    ensures { IfOk result (λ traced. TracesCode types.now code.now store traced.events traced.at traced.end) }
+{
+    let mut at = store;
+    let mut recorder = Recorder::on(alloc);
+    let end = go(alloc, types, code, &mut at, &mut recorder)?;
+    at.settle();
+    let events = recorder.into_events();
+    Ok(Traced { events, at, end })
 }

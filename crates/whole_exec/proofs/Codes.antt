@@ -1,13 +1,12 @@
--- Items, acts and conditions as codes.
-use Rattle.std.proofs.Common.{◌≡◌, ◌+◌, ◌==◌, inl, inr, ℕ, Bool, true, false, List, [], ◌∷◌, Result, Ok, Err, refl, sym, ap, ◌∙◌, subst, arith}
+-- Items and acts as codes.
+use Rattle.std.proofs.Common.{◌≡◌, ◌+◌, inl, inr, ℕ, Bool, List, [], ◌∷◌, Result, Ok, Err, refl, sym, ap, ◌∙◌, subst, arith}
 use mathlib.Core.Path.{transport}
 use Rattle.std.proofs.lemmas.List.Sums.{sum_by-cons}
 use Rattle.store_core.specs.declared.ids.VarId.{VarId}
 use Rattle.store_core.specs.Tables.{TypeEntry, VarEntry}
 use Rattle.store_core.specs.Stores.{StoreMap}
 use Rattle.store_logic.specs.declared.act.Act.{Act}
-use Rattle.store_logic.specs.declared.cond.Cond.{Cond}
-use Rattle.store_logic.specs.FitsCode.{ActFits, CondFits}
+use Rattle.store_logic.specs.FitsCode.{ActFits}
 use Rattle.store_exec.specs.declared.cause.Cause.{Cause}
 use Rattle.store_exec.specs.declared.fault.Fault.{Fault}
 use Rattle.store_exec.specs.declared.outcome.Outcome.{Outcome}
@@ -19,20 +18,18 @@ use Rattle.store_exec.specs.declared.code.Tail.{Tail}
 use Rattle.store_exec.specs.declared.code.Tail.TheVariants as tail
 use Rattle.store_exec.specs.declared.code.Tail.TheOpen.{Tail-F, Code-F}
 use Rattle.store_exec.specs.declared.code.Tail.TheFolds.{rec-roll-Tail, rec-roll-Code, fold-roll-Tail, fold-roll-Code, map-Tail, map-Code}
-use Rattle.store_exec.specs.Steps.{truth_of}
-use Rattle.store_exec.specs.Runs.{Ending, Does, RunsItems, Follows, Branches, RunsCode}
+use Rattle.store_exec.specs.Runs.{RunsItems, Follows, RunsCode}
 use Rattle.store_exec.specs.Fits.{ItemsFit, TailFitsNode, CodeFitsNode, CodeFits, news_of_item, news_of, news_of_tail, news_of_code, CanRunCode}
 use Rattle.store_exec.specs.Going.{CanRun}
-use Rattle.store_exec.proofs.CanRunLemmas.{TailFits, news_behind, news-branch}
-use Rattle.store_exec.proofs.CodeLemmas.{code-cut, code-branch}
-use Rattle.store_exec.proofs.RunLemmas.{RunsItem-Do}
+use Rattle.store_exec.proofs.CanRunLemmas.{TailFits, news_behind}
+use Rattle.store_exec.proofs.CodeLemmas.{code-cut}
 use Rattle.store_exec.proofs.GoingLemmas.{news-Do}
 use Rattle.hoare_split.specs.Settings.{settings}
 use Rattle.hoare_split.proofs.FittingCodeLemmas.{Do-fits}
 use Rattle.pale_calls.specs.declared.class.VarClass.{VarClass}
 use Rattle.pale_typed.specs.declared.typed.ProcEntry.{ProcEntry}
 use Rattle.pale_typed.specs.TypedPrograms.{TypedProgram}
-use Rattle.whole_exec.specs.Turning.{IsReady, CanRead, CanSet}
+use Rattle.whole_exec.specs.Turning.{IsReady, CanSet}
 use Rattle.whole_run.proofs.AnswerSettings.{settings_none}
 use Rattle.whole_run.proofs.AnswerSteps.{one_new}
 
@@ -40,15 +37,6 @@ use Rattle.whole_run.proofs.AnswerSteps.{one_new}
 
 abbrev pub ending_code : List Item → ℕ → Code
 ending_code items place = roll-Code (record { items = items; tail = tail.Cut place })
-
-abbrev pub choosing_code : ℕ → Cond → Code
-choosing_code line c = roll-Code (record { items = []; tail = tail.Branch line c (ending_code [] 0) (ending_code [] 1) })
-
--- the code of a condition, by its parts
-pub choosing_is : (items : List Item) (line : ℕ) (b c : Cond) (first other : Code) → items ≡ [] → b ≡ c → first ≡ ending_code [] 0 →
-    other ≡ ending_code [] 1 → roll-Code (record { items = items; tail = tail.Branch line b first other }) ≡ choosing_code line c
-choosing_is items line b c first other none same one two =
-    λ i. roll-Code (record { items = none i; tail = tail.Branch line (same i) (one i) (two i) })
 
 module _ (types : List TypeEntry) (vars : List VarEntry) where
   natural-tail : (T C : Type 0) (v : T → Tail) (w : C → Code) (k : Tail → Type 0) (l : Code → Type 0) (x : Tail-F T C) →
@@ -64,21 +52,12 @@ module _ (types : List TypeEntry) (vars : List VarEntry) where
   Cut-fits place = transport (λ i. sym (ap (TailFits types vars) (sym (tail.rolls-Cut place))
       ∙ rec-roll-Tail (Type 0) (Type 0) (TailFitsNode types vars) (CodeFitsNode types vars) natural-tail (Tail-F.Cut place)) i) tt
 
-  Branch-fits : (line : ℕ) (c : Cond) (taken other : Code) → CondFits types vars c → CodeFits types vars taken → CodeFits types vars other →
-      TailFits types vars (tail.Branch line c taken other)
-  Branch-fits line c taken other h g k = transport (λ i. sym (ap (TailFits types vars) (sym (tail.rolls-Branch line c taken other))
-      ∙ rec-roll-Tail (Type 0) (Type 0) (TailFitsNode types vars) (CodeFitsNode types vars) natural-tail (Tail-F.Branch line c taken other)) i) (h, g, k)
-
   made-fits : (x : Code-F Tail Code) → ItemsFit types vars x.items → TailFits types vars x.tail → CodeFits types vars (roll-Code x)
   made-fits x h g =
       transport (λ i. sym (rec-roll-Code (Type 0) (Type 0) (TailFitsNode types vars) (CodeFitsNode types vars) natural-code x) i) (h, g)
 
   ending-fits : (items : List Item) (place : ℕ) → ItemsFit types vars items → CodeFits types vars (ending_code items place)
   ending-fits items place fit = made-fits (record { items = items; tail = tail.Cut place }) fit (Cut-fits place)
-
-  choosing-fits : (line : ℕ) (c : Cond) → CondFits types vars c → CodeFits types vars (choosing_code line c)
-  choosing-fits line c fit = made-fits (record { items = []; tail = tail.Branch line c (ending_code [] 0) (ending_code [] 1) }) tt
-      (Branch-fits line c (ending_code [] 0) (ending_code [] 1) fit (ending-fits [] 0 tt) (ending-fits [] 1 tt))
 
 -- ---- how many cells they make
 
@@ -92,13 +71,6 @@ news-ending items place =
     ∙ fold-roll-Tail ℕ ℕ news_of_tail (λ x. news_of x.items + x.tail) (Tail-F.Cut place) in
     omega (arith, whole, own)
 
-news-choosing : (line : ℕ) (c : Cond) → news_of_code (choosing_code line c) ≡ 0
-news-choosing line c =
-    let whole = count-roll [] (tail.Branch line c (ending_code [] 0) (ending_code [] 1)) in
-    let own = news-branch line c (ending_code [] 0) (ending_code [] 1) in
-    let one = news-ending [] 0 in let two = news-ending [] 1 in
-    omega (arith, whole, own, one, two)
-
 -- ---- what can be run
 
 pub items_can : (types : List TypeEntry) (s : StoreMap) (items : List Item) (place : ℕ) → CanRun types s items → CanRunCode types s (ending_code items place)
@@ -108,15 +80,6 @@ items_can types s items place can = record {
   fresh = can.fresh;
   code_fits = ending-fits types can.vars items place can.items_fit;
   room = let less = can.room in let own = news-ending items place in omega (arith, less, own);
-}
-
-pub cond_can : (types : List TypeEntry) (s : StoreMap) (line : ℕ) (c : Cond) → CanRead types s c → CanRunCode types s (choosing_code line c)
-cond_can types s line c can = record {
-  vars = can.vars;
-  fits = can.fits;
-  fresh = can.fresh;
-  code_fits = choosing-fits types can.vars line c can.cond_fits;
-  room = let less = can.room in let own = news-choosing line c in omega (arith, less, own);
 }
 
 -- one act of a procedure that is ready
@@ -133,16 +96,6 @@ act_can program entry s line a ready fits = record {
       let own = news-Do line a in
       let few = one_new a in
       omega (arith, all, whole, own, few);
-}
-
-pub read_can : (program : TypedProgram) (entry : ProcEntry) (s : StoreMap) (c : Cond) → IsReady program entry s → CondFits program.types entry.vars c →
-    CanRead program.types s c
-read_can program entry s c ready fits = record {
-  vars = entry.vars;
-  fits = ready.fits;
-  fresh = ready.fresh;
-  cond_fits = fits;
-  room = let all = ready.room in omega (arith, all);
 }
 
 -- settings can be executed, which make no cell
@@ -190,68 +143,3 @@ module _ (types : List TypeEntry) where
   pub ran_into : (items : List Item) (place : ℕ) (s : StoreMap) (why : Cause) (line : ℕ) →
       RunsCode types (ending_code items place) s (outcome.Fail why line) → RunsItems types items s (Err (record { cause = why; line = line }))
   ran_into items place s why line ran = follow_fail items s place why line (code_runs items place s (outcome.Fail why line) ran)
-
-  -- no item ends where the code began, at its cut
-  stays : (place : ℕ) (s t : StoreMap) (there : ℕ) → RunsCode types (ending_code [] place) s (outcome.End there t) → (t ≡ s) × (place ≡ there)
-  stays place s t there ran =
-      let both = follow_end [] s t place there (code_runs [] place s (outcome.End there t) ran) in
-      let same : t ≡ s = by both.0 in (same, both.1)
-    where
-      by : RunsItems types [] s (Ok t) → t ≡ s
-      by is = cc
-
-  never : (place : ℕ) (s : StoreMap) (why : Cause) (line : ℕ) → RunsCode types (ending_code [] place) s (outcome.Fail why line) → ⊥
-  never place s why line ran = by (ran_into [] place s why line ran)
-    where
-      by : RunsItems types [] s (Err (record { cause = why; line = line })) → ⊥
-      by is = absurd cc
-
-  -- an act leads where its item ends
-  pub does_of : (line : ℕ) (a : Act) (s : StoreMap) (end : Ending) → RunsItems types (item.Do line a ∷ []) s end → Does types line s a end
-  does_of line a s end (inl (t, ran, is)) = subst (Does types line s a) (sym is) ((RunsItem-Do types line a s (Ok t)).0 ran)
-  does_of line a s end (inr (fault, ran, is)) = subst (Does types line s a) (sym is) ((RunsItem-Do types line a s (Err fault)).0 ran)
-
-  -- ---- the truth of a condition
-
-  abbrev Chosen : ℕ → Cond → StoreMap → Result Bool Cause → Outcome → Type 0
-  Chosen line c s r out = Branches line r (RunsCode types (ending_code [] 0) s) (RunsCode types (ending_code [] 1) s) out
-
-  choice_runs : (line : ℕ) (c : Cond) (s : StoreMap) (out : Outcome) → RunsCode types (choosing_code line c) s out → Chosen line c s (truth_of s c) out
-  choice_runs line c s out ran =
-      let z : Code-F Tail Code = record { items = []; tail = tail.Branch line c (ending_code [] 0) (ending_code [] 1) } in
-      let ends : (choosing_code line c).tail ≡ tail.Branch line c (ending_code [] 0) (ending_code [] 1) =
-      ap (λ (x : Code-F Tail Code). x.tail) (out-roll-Code z) in
-      let own : (choosing_code line c).items ≡ [] = ap (λ (x : Code-F Tail Code). x.items) (out-roll-Code z) in
-      by (subst (λ (xs : List Item). Follows (RunsItems types xs s)
-      (λ t. Branches line (truth_of t c) (RunsCode types (ending_code [] 0) t) (RunsCode types (ending_code [] 1) t)) out) own
-      ((code-branch types (choosing_code line c) line c (ending_code [] 0) (ending_code [] 1) ends s out).0 ran))
-    where
-      by : Follows (RunsItems types [] s)
-          (λ t. Branches line (truth_of t c) (RunsCode types (ending_code [] 0) t) (RunsCode types (ending_code [] 1) t)) out →
-          Chosen line c s (truth_of s c) out
-      by (inl (t, is, more)) = let same : t ≡ s = cc in subst (λ (z : StoreMap). Chosen line c z (truth_of z c) out) same more
-      by (inr (fault, is, out_is)) = absurd cc
-
-  told : (line : ℕ) (c : Cond) (s t : StoreMap) (place : ℕ) (r : Result Bool Cause) → Chosen line c s r (outcome.End place t) →
-      (r ≡ Ok (place == 0)) × (t ≡ s)
-  told line c s t place (Ok true) k =
-      let end = stays 0 s t place k in (ap (λ (n : ℕ). Ok (n == 0)) end.1, end.0)
-  told line c s t place (Ok false) k =
-      let end = stays 1 s t place k in (ap (λ (n : ℕ). Ok (n == 0)) end.1, end.0)
-  told line c s t place (Err why) k = absurd cc
-
-  untold : (line : ℕ) (c : Cond) (s : StoreMap) (why : Cause) (at : ℕ) (r : Result Bool Cause) → Chosen line c s r (outcome.Fail why at) →
-      (r ≡ Err why) × (at ≡ line)
-  untold line c s why at (Ok true) k = absurd (never 0 s why at k)
-  untold line c s why at (Ok false) k = absurd (never 1 s why at k)
-  untold line c s why at (Err other) k = let same : other ≡ why = cc in let here : at ≡ line = cc in (ap (λ (x : Cause). Err x) same, here)
-
-  -- at the first of the cuts it is true, and at the second false
-  pub told_at : (line : ℕ) (c : Cond) (s t : StoreMap) (place : ℕ) → RunsCode types (choosing_code line c) s (outcome.End place t) →
-      (truth_of s c ≡ Ok (place == 0)) × (t ≡ s)
-  told_at line c s t place ran = told line c s t place (truth_of s c) (choice_runs line c s (outcome.End place t) ran)
-
-  -- and a cause is the condition's
-  pub untold_at : (line : ℕ) (c : Cond) (s : StoreMap) (why : Cause) (at : ℕ) → RunsCode types (choosing_code line c) s (outcome.Fail why at) →
-      (truth_of s c ≡ Err why) × (at ≡ line)
-  untold_at line c s why at ran = untold line c s why at (truth_of s c) (choice_runs line c s (outcome.Fail why at) ran)

@@ -4,3 +4,5 @@ pub mod Forms
 pub mod Values
 pub mod Turnable
 pub mod Going
+pub mod Ending
+pub mod Naming

@@ -8,32 +8,37 @@ ghost use Rattle.hoare_split.specs.Picking.{test_of};
 ghost use Rattle.hoare_split.specs.Settings.{settings};
 ghost use Rattle.whole_exec.specs.Turning.{ArrivesAs, CanSet, SetsAs};
 
+use crate::halted::Halted;
 use crate::plain::run_items;
 use hoare_split::{Caller, Pick, set_picked};
 use std::alloc::{AllocError, Global};
 use store_core::{Store, TypeTable, VarTable};
-use store_exec::{Cut, Fault, ItemList};
+use store_exec::{Cut, ItemList};
 use store_runner::at_cut;
 use whole_handing::restricted;
 
-/// The store arrives at a cut: without a cause there the run goes on with its logic sets restricted to the live cells.
+/// The store arrives at a cut: without a cause there the run goes on with its logic sets restricted to the live cells. The freed cells
+/// are let go before, so that each cell is a look-up.
 pub(crate) fn arrive(
     alloc: Global,
     types: &TypeTable,
     vars: &VarTable,
     cut: &Cut,
     store: Store,
-) -> Result<Result<Store, Fault>, AllocError>
+) -> Result<Result<Store, Halted>, AllocError>
     requires fits { Fits types.now vars.now store }
     requires cut { CutFits types.now vars.now cut.now }
     ensures { IfOk result (ArrivesAs types.now vars.now cut.now store) }
 {
-    match at_cut(alloc, types, vars, cut, &store)? {
-        Some(cause) => Ok(Err(Fault {
+    let mut at = store;
+    at.settle();
+    match at_cut(alloc, types, vars, cut, &at)? {
+        Some(cause) => Ok(Err(Halted {
             cause,
             line: cut.line,
+            at,
         })),
-        None => Ok(Ok(restricted(alloc, vars, store)?)),
+        None => Ok(Ok(restricted(alloc, vars, at)?)),
     }
 }
 
@@ -63,7 +68,7 @@ pub(crate) fn set_and_arrive(
     pick: Pick<'_>,
     cut: &Cut,
     store: Store,
-) -> Result<Result<Store, Fault>, AllocError>
+) -> Result<Result<Store, Halted>, AllocError>
     requires set { CanSet caller.program.now caller.vars.now (settings caller.vars.now (test_of pick) cut.now.line) store }
     requires cut { CutFits caller.program.now.types caller.vars.now cut.now }
     ensures { IfOk result (SetsAs caller.entry.program.now.types caller.entry.vars.now

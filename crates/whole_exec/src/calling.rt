@@ -1,16 +1,17 @@
 //! A call: its cut, and the callee's entry.
 
-ghost use Rattle.std.specs.Prelude.{Ok, slice_get, IfOk, IsSome};
+ghost use Rattle.std.specs.Prelude.{◌≡◌, Ok, slice_get, IfOk, IfErr, IsSome};
 ghost use Rattle.routing_walks.specs.Regions.{IsPart};
 ghost use Rattle.pale_typed.specs.declared.typed.Stmt.TheOpen.{Stmt-F};
 ghost use Rattle.pale_typed.specs.Fitting.{CallFits, ProgramFits};
 ghost use Rattle.hoare_split.specs.Calls.{handed_by};
 ghost use Rattle.whole_run.specs.Turns.{Begins};
 ghost use Rattle.whole_exec.specs.Standings.{entry_of, frame_of, all_waiting};
-ghost use Rattle.whole_exec.specs.Turning.{IsReady, IsEntered, turn_of, GoesAs};
+ghost use Rattle.whole_exec.specs.Turning.{IsReady, IsEntered, turn_of, GoesAs, HaltsAs};
 
 use crate::activation::{Activation, At, Suspended};
 use crate::arriving::set_and_arrive;
+use crate::halted::Halted;
 use crate::pieces::Piece;
 use claim_laws::claims_with_actuals_put_in_fit;
 use hoare_split::{Caller, Pick, call_cut, caller_at, handed};
@@ -20,7 +21,6 @@ use plain_data::Stack;
 use routing_expr::reached;
 use std::alloc::{AllocError, Global};
 use store_core::{CellId, Store};
-use store_exec::Fault;
 use whole_handing::{handed_store, rest_store};
 
 /// The procedure of this number at its entry.
@@ -112,12 +112,14 @@ pub(crate) fn take_call<'a>(
     place: Pos,
     call: &'a CallParts,
     waiting: &mut Stack<Suspended<'a>>,
-) -> Result<Result<At<'a>, Fault>, AllocError>
+) -> Result<Result<At<'a>, Halted>, AllocError>
     requires program { ProgramFits program.now }
     requires ready { IsReady program.now (entry_of activation) store }
     requires call { CallFits program.now.types program.now.procs activation.vars.now call.now }
-    ensures { IfOk result (λ end. GoesAs program.now activation.entry store (Stmt-F.Call place call.now) (all_waiting waiting.old)
+    ensures goes { IfOk result (λ end. GoesAs program.now activation.entry store (Stmt-F.Call place call.now) (all_waiting waiting.old)
         (turn_of (all_waiting waiting.new) end)) }
+    ensures stops { IfOk result (HaltsAs program.now activation.entry store (Stmt-F.Call place call.now)) }
+    ensures kept { IfOk result (λ end. IfErr end (λ halted. all_waiting waiting.new ≡ all_waiting waiting.old)) }
 {
     claims_with_actuals_put_in_fit();
     let caller = Caller {

@@ -3,10 +3,11 @@ use Rattle.pale_modes.specs.Formatting.{Formats}
 use Rattle.pale_top.specs.Checking.{Checks}
 use Rattle.pale_top.specs.Judging.{Judges}
 use Rattle.pale_top.specs.Meeting.{MeetsText}
-use Rattle.pale_top.specs.Output.{Output, check, replay, format, ws2s, judge, meet, run}
+use Rattle.pale_top.specs.Output.{Output, check, replay, format, ws2s, judge, meet, run, trace}
 use Rattle.pale_modes.specs.Deciding.{Decides}
 use Rattle.pale_modes.specs.Replaying.{Replays}
 use Rattle.pale_modes.specs.Running.{Runs}
+use Rattle.pale_modes.specs.Tracing.{Traces}
 use Rattle.pale_modes.proofs.WrittenLemmas.{begun-weaker, whole-weaker}
 use Rattle.pale_modes.proofs.WrittenLemmas.{said_begun, said_whole}
 use Rattle.pale_modes.specs.Report.{too_long_line}
@@ -93,3 +94,13 @@ pub returns-in-Run-clause-err : goal.returns-in-Run-clause-err
 returns-in-Run-clause-err g c =
     begun-weaker (Runs c.args.text.now) (Output c.args.settings c.args.text.now) (run c.in-Run.is)
     (g.K.Sink.written c.args.sink.now) (g.K.Sink.written c.run_text.new.sink) c.run_text.result c.run_text.ensures.err
+
+pub returns-in-Trace-clause-ok : goal.returns-in-Trace-clause-ok
+returns-in-Trace-clause-ok g c =
+    whole-weaker (Traces c.args.text.now) (Output c.args.settings c.args.text.now) (trace c.in-Trace.is)
+    (g.K.Sink.written c.args.sink.now) (g.K.Sink.written c.trace_text.new.sink) c.trace_text.result c.trace_text.ensures.ok
+
+pub returns-in-Trace-clause-err : goal.returns-in-Trace-clause-err
+returns-in-Trace-clause-err g c =
+    begun-weaker (Traces c.args.text.now) (Output c.args.settings c.args.text.now) (trace c.in-Trace.is)
+    (g.K.Sink.written c.args.sink.now) (g.K.Sink.written c.trace_text.new.sink) c.trace_text.result c.trace_text.ensures.err

@@ -11,10 +11,10 @@ assign_field-requires-clause-class c =
     class-by_field c.args.types.now c.args.store.now c.args.place.now.var c.args.place.now.fields c.in-Some.before.now c.in-Some.last.now c.args.rhs.now parts
     c.requires.class
 
-pub returns-in-Some : goal.returns-in-Some
-returns-in-Some c =
+pub returns-in-Some-clause-leads : goal.returns-in-Some-clause-leads
+returns-in-Some-clause-leads c =
     let parts : c.args.place.now.fields ≡ c.in-Some.before.now ++ c.in-Some.last.now ∷ [] = sym c.as_slice.ensures ∙ c.in-Some.ensures.cases.0 in
     subst (λ (defined : Result StoreMap Cause). Leads c.assign_field.new.store defined c.assign_field.result)
     (sym (assigned-by_field c.args.types.now c.args.store.now c.args.place.now.var c.args.place.now.fields c.in-Some.before.now c.in-Some.last.now
     c.args.rhs.now parts))
-    c.assign_field.ensures
+    c.assign_field.ensures.leads

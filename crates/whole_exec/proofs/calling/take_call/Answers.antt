@@ -8,7 +8,7 @@ use Rattle.hoare_split.proofs.FittingClaimLemmas.{call-arrival, call-settings}
 use Rattle.whole_run.specs.Turns.{Begins}
 use Rattle.whole_exec.specs.Standings.{frame_of, all_waiting}
 use Rattle.whole_exec.specs.Turning.{CanSet, SetsAs}
-use Rattle.whole_exec.proofs.Forms.{arrived_on, arrived_fault}
+use Rattle.whole_exec.proofs.Forms.{arrived_on, arrived_fault, halted_set}
 use Rattle.whole_exec.proofs.calling.take_call.Goals as goal
 
 -- the settings before a call can be executed
@@ -39,8 +39,8 @@ set_and_arrive-requires-clause-cut c =
 pub begin-requires : goal.begin-requires
 begin-requires c = record { callee = ap is_some c.requires.call.there }
 
-pub returns-in-Ok : goal.returns-in-Ok
-returns-in-Ok c =
+pub returns-in-Ok-clause-goes : goal.returns-in-Ok-clause-goes
+returns-in-Ok-clause-goes c =
     let program = c.args.program.now in
     let a = c.args.activation in
     let call = c.args.call.now in
@@ -55,8 +55,8 @@ returns-in-Ok c =
           (λ t after. Begins program call (frame_of a t) (all_waiting c.args.waiting.now) after) c.in-Ok.after _ sets.2 c.in_ok-begin-in-Ok.ensures,
     )
 
-pub returns : goal.returns
-returns c =
+pub returns-clause-goes : goal.returns-clause-goes
+returns-clause-goes c =
     let program = c.args.program.now in
     let a = c.args.activation in
     let call = c.args.call.now in
@@ -70,3 +70,16 @@ returns c =
       arrived_fault program.types a.vars.now sets.0 cut (λ t after. Begins program call (frame_of a t) (all_waiting c.args.waiting.now) after)
           c.in-Err.fault sets.2,
     )
+
+-- it stands at the store after the settings
+pub returns-clause-stops : goal.returns-clause-stops
+returns-clause-stops c =
+    let program = c.args.program.now in
+    let a = c.args.activation in
+    let call = c.args.call.now in
+    let sets = subst (λ (x : Cut). SetsAs program.types a.vars.now (settings a.vars.now (is_awaited call) x.line) x c.args.store (Err c.in-Err.fault))
+    c.in_ok-cut.ensures
+    (subst (SetsAs program.types a.vars.now (settings a.vars.now (is_awaited call) (c.in_ok-cut.cut).line) c.in_ok-cut.cut c.args.store) c.in-Err.is
+    c.in_ok-arrived.ensures) in
+    halted_set program.types a.vars.now (settings a.vars.now (is_awaited call) c.args.place.line)
+    (call_cut program.procs a.vars.now c.args.place.line call) c.args.store c.in-Err.fault sets

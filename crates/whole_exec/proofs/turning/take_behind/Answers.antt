@@ -1,25 +1,23 @@
-use Rattle.std.proofs.Common.{Bool, [], ◌∷◌, ◌++◌, if◌then◌else◌, sym, subst}
+use Rattle.std.proofs.Common.{Bool, [], ◌∷◌, ◌++◌, if◌then◌else◌, refl, ◌∙◌, ap, subst, Result, Ok}
+use Rattle.store_exec.specs.declared.fault.Fault.{Fault}
 use Rattle.store_exec.specs.Steps.{truth_of}
+use Rattle.store_exec.specs.Going.{IsTruthAt}
 use Rattle.whole_exec.specs.Standings.{loop_of, entry_of, left_of}
-use Rattle.whole_exec.specs.Turning.{CanRead, IsToldOf}
-use Rattle.whole_exec.proofs.Codes.{read_can}
 use Rattle.whole_exec.proofs.Forms.{chosen_turn, untold_turn}
 use Rattle.whole_exec.proofs.turning.take_behind.Goals as goal
 
-pub truth_at-requires : goal.truth_at-requires
-truth_at-requires c = subst (λ types. CanRead types c.args.store (c.args.behind).test.now) (sym c.types.ensures)
-    (read_can c.args.program.now (entry_of c.args.activation) c.args.store (c.args.behind).test.now c.requires.ready c.requires.cond)
-
-pub returns-in-Ok : goal.returns-in-Ok
-returns-in-Ok c = λ waiting.
+pub returns-in-Ok-clause-goes : goal.returns-in-Ok-clause-goes
+returns-in-Ok-clause-goes c = λ program waiting.
     let l = c.args.behind in
-    let told = subst (IsToldOf l.place.line c.args.store l.test.now) c.in-Ok.is c.in_ok-truth.ensures in
-    chosen_turn (entry_of c.args.activation) waiting l.place.line c.args.store c.in-Ok.after l.test.now c.in-Ok.truth
+    let told = subst (IsTruthAt c.args.store l.place.line l.test.now)
+    (c.in_ok-truth.was ∙ ap (λ (r : Result Bool Fault). Ok r) c.in-Ok.is) c.read_truth.ensures in
+    chosen_turn (entry_of c.args.activation) waiting l.place.line c.args.store c.args.store l.test.now c.in-Ok.truth
     (λ (truth : Bool). if truth then l.body.now ++ loop_of l ∷ [] else []) (left_of (c.args.activation).left) (left_of c.push_body.new.left)
-    told.0 told.1 c.in_ok-push_body-in-Ok.ensures
+    told refl c.in_ok-push_body-in-Ok.ensures
 
-pub returns : goal.returns
-returns c = λ waiting.
+pub returns-clause-goes : goal.returns-clause-goes
+returns-clause-goes c = λ program waiting.
     let l = c.args.behind in
-    let told = subst (IsToldOf l.place.line c.args.store l.test.now) c.in-Err.is c.in_ok-truth.ensures in
+    let told = subst (IsTruthAt c.args.store l.place.line l.test.now)
+    (c.in_ok-truth.was ∙ ap (λ (r : Result Bool Fault). Ok r) c.in-Err.is) c.read_truth.ensures in
     untold_turn l.place.line _ (truth_of c.args.store l.test.now) c.in-Err.fault told.0 told.1

@@ -22,8 +22,8 @@ arrive-requires-clause-cut c =
     (subst (λ (types : List TypeEntry). CutFits types vars (plain_cut c.args.place.line c.args.assertion.now)) (sym c.types.ensures)
     (plain_fits (c.args.program.now).types vars c.args.place.line c.args.assertion.now c.requires.assertion))
 
-pub returns-in-Ok : goal.returns-in-Ok
-returns-in-Ok c = λ waiting.
+pub returns-in-Ok-clause-goes : goal.returns-in-Ok-clause-goes
+returns-in-Ok-clause-goes c = λ waiting.
     let types = (c.args.program.now).types in
     let vars = (c.args.activation).vars.now in
     let cut = plain_cut c.args.place.line c.args.assertion.now in
@@ -34,8 +34,8 @@ returns-in-Ok c = λ waiting.
     (λ t after. after ≡ goes (on_with (entry_of c.args.activation) waiting (left_of (c.args.activation).left) t)) c.in-Ok.after _ arrives
     (refl)
 
-pub returns : goal.returns
-returns c = λ waiting.
+pub returns-clause-goes : goal.returns-clause-goes
+returns-clause-goes c = λ waiting.
     let types = (c.args.program.now).types in
     let vars = (c.args.activation).vars.now in
     let cut = plain_cut c.args.place.line c.args.assertion.now in
@@ -44,3 +44,8 @@ returns c = λ waiting.
     (subst (ArrivesAs c.types.result.now vars c.in_ok-cut.cut c.args.store) c.in-Err.is c.in_ok-after.ensures)) in
     arrived_fault types vars c.args.store cut
     (λ t after. after ≡ goes (on_with (entry_of c.args.activation) waiting (left_of (c.args.activation).left) t)) c.in-Err.fault arrives
+
+pub returns-clause-stops : goal.returns-clause-stops
+returns-clause-stops c =
+    let arrives = subst (ArrivesAs c.types.result.now (c.args.activation).vars.now c.in_ok-cut.cut c.args.store) c.in-Err.is c.in_ok-after.ensures in
+    arrives.2

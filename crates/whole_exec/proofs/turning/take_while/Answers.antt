@@ -23,8 +23,8 @@ arrive-requires-clause-cut c =
     (subst (λ (types : List TypeEntry). CutFits types vars (plain_cut (c.args.met).place.line (c.args.met).invariant.now)) (sym c.types.ensures)
     (plain_fits (c.args.program.now).types vars (c.args.met).place.line (c.args.met).invariant.now c.requires.invariant))
 
-pub returns-in-Ok : goal.returns-in-Ok
-returns-in-Ok c = λ waiting.
+pub returns-in-Ok-clause-goes : goal.returns-in-Ok-clause-goes
+returns-in-Ok-clause-goes c = λ waiting.
     let types = (c.args.program.now).types in
     let vars = (c.args.activation).vars.now in
     let cut = plain_cut (c.args.met).place.line (c.args.met).invariant.now in
@@ -37,8 +37,8 @@ returns-in-Ok c = λ waiting.
     c.in-Ok.after _ arrives
     (ap (λ (l : List Stmt). goes (on_with (entry_of c.args.activation) waiting l c.in-Ok.after)) (ap left_of c.in_ok-push-in-Ok.ensures.ok))
 
-pub returns : goal.returns
-returns c = λ waiting.
+pub returns-clause-goes : goal.returns-clause-goes
+returns-clause-goes c = λ waiting.
     let types = (c.args.program.now).types in
     let vars = (c.args.activation).vars.now in
     let cut = plain_cut (c.args.met).place.line (c.args.met).invariant.now in
@@ -49,3 +49,8 @@ returns c = λ waiting.
     (λ t after. after ≡ goes (on_with (entry_of c.args.activation) waiting
     (behind_cut (c.args.met).place (c.args.met).test.now (c.args.met).invariant.now (c.args.met).body.now ∷ left_of (c.args.activation).left) t))
     c.in-Err.fault arrives
+
+pub returns-clause-stops : goal.returns-clause-stops
+returns-clause-stops c =
+    let arrives = subst (ArrivesAs c.types.result.now (c.args.activation).vars.now c.in_ok-cut.cut c.args.store) c.in-Err.is c.in_ok-after.ensures in
+    arrives.2

@@ -1,0 +1,4 @@
+mod EndingLemmas
+mod TellingLemmas
+mod TripleLemmas
+mod RunLemmas

@@ -1,0 +1,8 @@
+use Rattle.whole_trace.proofs.TraceLaws.{trace-answers, run-traced}
+use Rattle.whole_trace.proofs.laws.traces_are_whole_runs.Goals as goal
+
+pub returns : goal.returns
+returns c = record {
+  answers = λ program number s n shown stand answer h. trace-answers program number s n shown stand answer h;
+  traces = λ program number s n answer h. run-traced program number s n answer h;
+}

@@ -1,0 +1,17 @@
+//! What holds of traces of whole runs, each law the contract of a function that does nothing.
+
+ghost use Rattle.std.specs.Prelude.{◌≡◌, ℕ, List};
+ghost use Rattle.store_core.specs.Stores.{StoreMap};
+ghost use Rattle.pale_typed.specs.TypedPrograms.{TypedProgram};
+ghost use Rattle.store_trace.specs.declared.event.Event.{Event};
+ghost use Rattle.whole_run.specs.States.{Answer};
+ghost use Rattle.whole_run.specs.Runs.{WholeRun};
+ghost use Rattle.whole_trace.specs.Traces.{Stand, TracedRun};
+
+/// The answer of a trace is the run's, and each run has a trace.
+pub fn traces_are_whole_runs()
+    ensures answers { (program : TypedProgram) (number : ℕ) (s : StoreMap) (n : ℕ) (shown : List Event) (stand : Stand) (answer : Answer) →
+        TracedRun program number s n shown stand answer → WholeRun program number s n answer }
+    ensures traces { (program : TypedProgram) (number : ℕ) (s : StoreMap) (n : ℕ) (answer : Answer) → WholeRun program number s n answer →
+        (shown : List Event) × (stand : Stand) × TracedRun program number s n shown stand answer }
+{}
