@@ -24,28 +24,29 @@ def cell_label(cell):
     return " ".join([f"{cell.number}: {cell.type}", *truths]) + (f"\n{', '.join(empty)}: null" if empty else "")
 
 
+def targets_of(value):
+    """The numbers of the cells that a value names: those of a cell, or of a set."""
+    return [int(it) for it in value.strip("{}").split() if it.isdigit()]
+
+
 def as_dot(store, dashed, title="", changed=frozenset()):
     """The store's text for Graphviz; what is in `changed` (variables by name, cells by number, fields by both) is red."""
     red = lambda key: ", color=red, fontcolor=red" if key in changed else ""
     lines = ["digraph store {", '  rankdir=LR; node [shape=box, fontname="Helvetica"]; edge [fontname="Helvetica"];']
     if title:
         lines.append(f"  label={quoted(title)}; labelloc=t;")
-    cells = {it.number for it in store.cells}
+    values = [value for _, value in store.variables] + [value for cell in store.cells for _, value in cell.values]
+    freed = {target for value in values for target in targets_of(value)} - {it.number for it in store.cells}
+    lines += [f"  c{it} [label={quoted(f'{it} (freed)')}, style=dotted];" for it in sorted(freed)]
     for cell in store.cells:
         is_changed = cell.number in changed or any((cell.number, name) in changed for name, value in cell.values if not value.isdigit())
         lines.append(f"  c{cell.number} [label={quoted(cell_label(cell))}{', color=red, fontcolor=red' if is_changed else ''}];")
         for name, value in cell.values:
-            if value.isdigit():
-                style = "dashed" if name in dashed else "solid"
-                target = f"c{value}" if int(value) in cells else f"gone{value}"
-                if int(value) not in cells:
-                    lines.append(f"  gone{value} [label={quoted(value + ' (freed)')}, style=dotted];")
-                lines.append(f"  c{cell.number} -> {target} [label={quoted(name)}, style={style}{red((cell.number, name))}];")
+            style = "dashed" if name in dashed else "solid"
+            lines += [f"  c{cell.number} -> c{it} [label={quoted(name)}, style={style}{red((cell.number, name))}];" for it in targets_of(value)]
     for place, (name, value) in enumerate(store.variables):
-        targets = [value] if value.isdigit() else value.strip("{}").split() if value.startswith("{") else []
-        shown = f"{name} = {value}" if not targets or value.startswith("{") else name
-        lines.append(f"  v{place} [label={quoted(shown)}, shape=plaintext{red(name)}];")
-        lines += [f"  v{place} -> c{it} [arrowhead=vee{red(name) or ', color=gray40'}];" for it in targets if int(it) in cells]
+        lines.append(f"  v{place} [label={quoted(name if value.isdigit() else f'{name} = {value}')}, shape=plaintext{red(name)}];")
+        lines += [f"  v{place} -> c{it} [arrowhead=vee{red(name) or ', color=gray40'}];" for it in targets_of(value)]
     return "\n".join([*lines, "}"]) + "\n"
 
 
