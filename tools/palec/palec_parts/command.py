@@ -19,7 +19,8 @@ VERSION = "0.1"
 USAGE, REFUSED = 2, 3
 
 
-STATUSES = "Status: 0 all is valid; 1 some triple is invalid; 2 the words, a file, or no program to call; 3 a text was refused, or a field is ambiguous; 4 a limit was met, or there is no answer."
+STATUSES = ("Status: 0 all is valid; 1 some triple is invalid; 2 the words, a file, or no program to call; 3 a text was refused, "
+            "or a field is ambiguous; 4 a limit was met, or there is no answer.")
 DRAWN = "Status: 0 it is drawn; 2 the words, a file, or no program to call; 3 there is no store to draw."
 WRITTEN = "Status: 0 all commands are written; 2 the words, a file, or no program to call; 3 the triples of a text can't be asked for one by one."
 VARIABLES = "PALE names the program `pale`, else it is the one that the gate left, or the one on the path. NO_COLOR turns colours off."
@@ -62,7 +63,8 @@ def arguments():
     check = command("check", "judge the fields and triples of programs", "files", "texts of programs")
     add_bounds(check)
     check.add_argument("--no-meet", action="store_true", help="don't look for triples that no store meets")
-    check.add_argument("--format", choices=["text", "json", "sarif", "github"], default="text", help="for people, or for machines: an object a line, a log of SARIF 2.1.0, the commands of a GitHub workflow (text)")
+    check.add_argument("--format", choices=["text", "json", "sarif", "github"], default="text", 
+                       help="for people, or for machines: an object a line, a log of SARIF 2.1.0, the commands of a GitHub workflow (text)")
     check.add_argument("--color", choices=["auto", "always", "never"], default="auto", help="colours in text; auto: on a terminal (auto)")
 
     explain = command("explain", "tell an invalid triple step by step, with the heap after each step")

@@ -85,6 +85,17 @@ HABITS = {
 }
 
 
+# What stands in assertions for a mark of code, and the other way round.
+MARKS = {
+    "!": "in an assertion the mark is `~`; `!` belongs to conditions of code",
+    "~": "in a condition of code the mark is `!`; `~` belongs to assertions",
+    **dict.fromkeys(("==", "!="), "in an assertion the marks are `=` and `~=`; `==` and `!=` belong to conditions of code"),
+    **dict.fromkeys(("=", "~="), "in a condition of code the marks are `==` and `!=`; `=` and `~=` belong to assertions"),
+    **dict.fromkeys(("&&", "||"), "in an assertion the marks are `&` and `|`"),
+    **dict.fromkeys(("&", "|"), "in a condition of code the marks are `&&` and `||`"),
+}
+
+
 def habit_at(source, finding):
     """What is known of the words at a place, from other languages."""
     line = source.line(finding.line)
@@ -100,10 +111,6 @@ def habit_at(source, finding):
             return hint
     if found and found.kind == "number":
         return "there are no numbers: a cell is compared with `null` or another cell, and a truth value stands alone"
-    if text == "!" and inside_of(source, finding):
-        return "in an assertion the mark is `~`; `!` belongs to conditions of code"
-    if text == "~" and not inside_of(source, finding):
-        return "in a condition of code the mark is `!`; `~` belongs to assertions"
     if text in ("true", "false") and last in ("==", "!=", "=", "~="):
         return "a truth value isn't compared: it stands alone, as `b` or `!b`"
     if text in ("data", "pointer", "bool") and last in (";", "}") and scope_of(source, finding):
@@ -118,14 +125,8 @@ def habit_at(source, finding):
         return "a loop has an invariant in brackets between its condition and its braces: `while (c) [ .. ] { .. }`"
     if text == "pre" and "post" in {it.text for it in before[-200:]}:
         return "`pre` stands before `post`"
-    if text in ("==", "!="):
-        return "in an assertion the marks are `=` and `~=`; `==` and `!=` belong to conditions of code"
-    if text in ("=", "~="):
-        return "in a condition of code the marks are `==` and `!=`; `=` and `~=` belong to assertions"
-    if text in ("&&", "||"):
-        return "in an assertion the marks are `&` and `|`"
-    if text in ("&", "|"):
-        return "in a condition of code the marks are `&&` and `||`"
+    if text in MARKS:
+        return MARKS[text]
     if text == ":" and len(before) > 1 and before[-1].kind == "name" and before[-2].text in ("{", ";", "}"):
         return HABITS["var"]
     if text == "(" and len(before) > 1 and before[-2].text == "new":

@@ -44,7 +44,10 @@ def fields_of(caller, source):
 
 
 def is_there(caller, source, number):
-    """Whether there is a triple of that number, or None where that isn't known. It is asked by a request of two lines: the second one is refused where the first isn't, and nothing is judged."""
+    """Whether there is a triple of that number, or None where that isn't known.
+
+    It is asked by a request of two lines: the second one is refused where the first isn't, and nothing is judged.
+    """
     answer = caller.call("judge", request(source, f"triple {number}\ntriple {number}"))
     return {"request refused 2": True, "request refused 1": False}.get(answer.output[:17])
 
@@ -76,7 +79,11 @@ def triples_of(caller, source, calls, jobs, on_one):
 
 @dataclass
 class Wishes:
-    """How files are judged: how many calls run at a time, whether stores are sought that meet each triple, whom each triple is told when it is done, and what says more of an invalid one."""
+    """How files are judged.
+
+    So many calls run at a time; with `with_meet` stores are sought that meet each triple; each triple that is done is
+    handed to `on_one`, and `explain` says more of an invalid one.
+    """
 
     jobs: int = 1
     with_meet: bool = True

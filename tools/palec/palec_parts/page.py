@@ -29,6 +29,11 @@ button { font: inherit; margin-right: 4px; } .triple.chosen { font-weight: bold;
 @media (max-width: 900px) { body { flex-direction: column; } #program { border-right: none; border-bottom: 1px solid #ccc; } }
 """
 
+STEPS = """<p><button id="back">&#8592;</button><button id="on">&#8594;</button> <span id="count"></span></p>
+<p id="what"></p><div id="heap"></div>
+<p class="key">The arrow keys go on and back, Home and End to the start and to the failure.
+Data fields are solid, pointer fields dashed; what the step changed is red.</p>"""
+
 SCRIPT = """
 const shown = JSON.parse(document.getElementById('shown').textContent);
 let triple = 0, step = 0;
@@ -39,7 +44,8 @@ function show() {
   const one = shown[triple], frame = one.frames[step];
   at('count').textContent = 'step ' + step + ' of ' + (one.frames.length - 1);
   at('what').textContent = frame.text;
-  if (frame.svg) at('heap').innerHTML = frame.svg; else { at('heap').innerHTML = ''; const p = document.createElement('pre'); p.textContent = frame.lines.join('\\n'); at('heap').append(p); }
+  at('heap').innerHTML = frame.svg;
+  if (!frame.svg) { const table = document.createElement('pre'); table.textContent = frame.lines.join('\\n'); at('heap').append(table); }
   document.querySelectorAll('.now').forEach(it => it.classList.remove('now'));
   const line = at('line' + frame.line);
   if (line) { line.classList.add('now'); line.scrollIntoView({ block: 'nearest' }); }
@@ -51,7 +57,13 @@ function go(by) { if (shown.length) { step = Math.max(0, Math.min(shown[triple].
 function choose(n) { triple = n; step = 0; show(); }
 const keys = { ArrowRight: 1, ArrowLeft: -1, Home: -1e9, End: 1e9 };
 document.addEventListener('keydown', e => { if (e.key in keys && !e.ctrlKey && !e.altKey && !e.metaKey) { e.preventDefault(); go(keys[e.key]); } });
-if (shown.length) { at('back').onclick = () => go(-1); at('on').onclick = () => go(1); document.querySelectorAll('.triple').forEach((it, n) => it.onclick = () => choose(n)); triple = Math.min(shown.length - 1, Number(wanted.get('triple')) || 0); go(Number(wanted.get('step')) || 0); }
+if (shown.length) {
+  at('back').onclick = () => go(-1);
+  at('on').onclick = () => go(1);
+  document.querySelectorAll('.triple').forEach((it, n) => it.onclick = () => choose(n));
+  triple = Math.min(shown.length - 1, Number(wanted.get('triple')) || 0);
+  go(Number(wanted.get('step')) || 0);
+}
 """
 
 
@@ -122,9 +134,7 @@ def as_page(told):
     data = json.dumps(shown).replace("<", "\\u003c")
     name = html.escape(told.source.path)
     chosen = "".join(f'<div class="triple"><button>{html.escape(it["name"])}</button></div>' for it in shown)
-    steps = ('<p><button id="back">&#8592;</button><button id="on">&#8594;</button> <span id="count"></span></p><p id="what"></p><div id="heap"></div>'
-             '<p class="key">The arrow keys go on and back, Home and End to the start and to the failure. Data fields are solid, pointer fields dashed; what the step changed is red.</p>'
-             if shown else "<p>There is no store to show.</p>")
+    steps = STEPS if shown else "<p>There is no store to show.</p>"
     helps = [line for it in told.findings if it.kind == "refused" for line in (sentence_of(told, it), *refusal_help(told.source, it))]
     others = "".join(f"<p>{html.escape(it)}</p>" for it in [*told.warnings, *helps])
     return ('<!doctype html>\n<html lang="en"><head><meta charset="utf-8"><title>' + name + "</title>"

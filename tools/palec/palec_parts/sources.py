@@ -5,7 +5,8 @@ from pathlib import Path
 
 # A run of bytes that begin no token counts as its first one.
 TOKEN = re.compile(rb"#[^\n]*|[ \t\r\n]+|(?P<name>[A-Za-z][A-Za-z0-9_]*)|(?P<number>[0-9]+)"
-                   rb"|(?P<mark><=>|==|=>|!=|~=|&&|\|\||[=!~&|<>()\[\]{}:;,.*+^$@?])|(?P<other>[^A-Za-z0-9 \t\r\n#<>=!~&|()\[\]{}:;,.*+^$@?])[^A-Za-z0-9 \t\r\n#<>=!~&|()\[\]{}:;,.*+^$@?]*")
+                   rb"|(?P<mark><=>|==|=>|!=|~=|&&|\|\||[=!~&|<>()\[\]{}:;,.*+^$@?])"
+                   rb"|(?P<other>[^A-Za-z0-9 \t\r\n#<>=!~&|()\[\]{}:;,.*+^$@?])[^A-Za-z0-9 \t\r\n#<>=!~&|()\[\]{}:;,.*+^$@?]*")
 
 
 @dataclass
