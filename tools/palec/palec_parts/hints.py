@@ -86,6 +86,7 @@ HABITS = {
 
 
 # What stands in assertions for a mark of code, and the other way round.
+MARKS_OF_CODE = ("!", "==", "!=", "&&", "||")
 MARKS = {
     "!": "in an assertion the mark is `~`; `!` belongs to conditions of code",
     "~": "in a condition of code the mark is `!`; `~` belongs to assertions",
@@ -125,7 +126,7 @@ def habit_at(source, finding):
         return "a loop has an invariant in brackets between its condition and its braces: `while (c) [ .. ] { .. }`"
     if text == "pre" and "post" in {it.text for it in before[-200:]}:
         return "`pre` stands before `post`"
-    if text in MARKS:
+    if text in MARKS and bool(inside_of(source, finding)) == (text in MARKS_OF_CODE):
         return MARKS[text]
     if text == ":" and len(before) > 1 and before[-1].kind == "name" and before[-2].text in ("{", ";", "}"):
         return HABITS["var"]
