@@ -183,7 +183,7 @@ module _ (types : List TypeEntry) (vars : List VarEntry) (s : StoreMap) (cut : C
 -- a run that stops at a cut behind settings stands at the store after them
 pub halted_set : (types : List TypeEntry) (vars : List VarEntry) (items : List Item) (cut : Cut) (s : StoreMap) (halted : Halted) →
     SetsAs types vars items cut s (Err halted) → RunsItems types items s (Ok halted.at)
-halted_set types vars items cut s halted (u, ran, at_cut, at_line, same) = subst (λ (t : StoreMap). RunsItems types items s (Ok t)) (sym same) ran
+halted_set types vars items cut s halted (u, ran, arrives) = subst (λ (t : StoreMap). RunsItems types items s (Ok t)) (sym arrives.2) ran
 
 -- ---- what was found
 

@@ -6,14 +6,14 @@ ghost use Rattle.pale_typed.specs.Fitting.{ProgramFits};
 ghost use Rattle.pale_typed.specs.TypedPrograms.{TypedProgram};
 ghost use Rattle.store_trace.specs.declared.event.Event.{Event};
 ghost use Rattle.store_trace.specs.Recording.{recorded};
-ghost use Rattle.whole_run.specs.States.{exited};
+ghost use Rattle.whole_run.specs.States.{runs, exited};
 ghost use Rattle.whole_run.specs.Runs.{WholeRun};
 ghost use Rattle.whole_trace.specs.Traces.{Traces, TracedRun, proc_at};
 ghost use Rattle.whole_exec.specs.Answers.{answer_of, answer_with, stand_of};
 ghost use Rattle.whole_exec.specs.Starting.{CanStart};
-ghost use Rattle.whole_exec.specs.Standings.{all_waiting, state_of};
+ghost use Rattle.whole_exec.specs.Standings.{frame_of, all_waiting, state_of};
 
-use crate::activation::{At, Suspended};
+use crate::activation::{Activation, At, Suspended};
 use crate::answer::Answer;
 use crate::calling::entered;
 use crate::traced::{RunEnd, RunTrace};
@@ -67,17 +67,32 @@ fn exited_at(first: u32, at: Store, waiting: Stack<Suspended<'_>>) -> Stood
     }
 }
 
+/// Where a run stands while a procedure runs.
+fn running_at(
+    first: u32,
+    activation: Activation<'_>,
+    at: Store,
+    waiting: Stack<Suspended<'_>>,
+) -> Stood
+    ensures { (program : TypedProgram) → Traces program first 0 (runs (frame_of activation.entry at) (all_waiting waiting.entry)) []
+        (stand_of result.proc result.at) (answer_with result.at result.end) }
+{
+    let proc = proc_at(first, waiting);
+    drop(activation);
+    Stood {
+        proc,
+        at,
+        end: RunEnd::Running,
+    }
+}
+
 /// Where a run stands that has no step left.
 fn rest_at(first: u32, at: At<'_>, waiting: Stack<Suspended<'_>>) -> Stood
     ensures { (program : TypedProgram) → Traces program first 0 (state_of at.entry (all_waiting waiting.entry)) [] (stand_of result.proc result.at)
         (answer_with result.at result.end) }
 {
     match at {
-        At::Running(_, store) => Stood {
-            proc: proc_at(first, waiting),
-            at: store,
-            end: RunEnd::Running,
-        },
+        At::Running(activation, store) => running_at(first, activation, store, waiting),
         At::Exited(store) => exited_at(first, store, waiting),
     }
 }

@@ -81,7 +81,7 @@ pub(crate) fn note_shown<'a>(
     shown: EventList,
     recorder: &mut Recorder,
 ) -> Result<Result<At<'a>, Halted>, AllocError>
-    ensures same { IfOk result (λ after. after ≡ end) }
+    ensures same { IfOk result (λ after. after ≡ end.entry) }
     ensures shows { IfOk result (ShowsAs recorder.old recorder.new shown) }
 {
     match end {

@@ -7,7 +7,7 @@ pub returns-in-Ok : goal.returns-in-Ok
 returns-in-Ok c = subst (DoesWell c.args.types.now c.args.line c.args.act.now c.args.store c.execute.new.store)
     (c.in_ok-execute.was ∙ ap (λ (r : Result (Unit {0}) Fault). Ok r) c.in-Ok.is) c.execute.ensures
 
-pub returns : goal.returns
-returns c =
+pub returns-in-Err : goal.returns-in-Err
+returns-in-Err c =
     let h = subst (DoesWell c.args.types.now c.args.line c.args.act.now c.args.store c.execute.new.store)
     (c.in_ok-execute.was ∙ ap (λ (r : Result (Unit {0}) Fault). Ok r) c.in-Err.is) c.execute.ensures in h
