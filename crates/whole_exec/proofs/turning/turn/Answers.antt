@@ -55,6 +55,18 @@ give_back-requires c =
     subst (λ (ws : List Suspended). CanTurn c.args.program.now (exited c.in-Exited.store (all_waiting ws))) c.in-Some.ensures
     (subst (λ (at : At). CanTurn c.args.program.now (state_of at (all_waiting c.args.waiting.now))) c.in-Exited.is c.requires.can)
 
+-- the return is recorded
+pub returns-in_ok-note_return-in-Some : goal.returns-in_ok-note_return-in-Some
+returns-in_ok-note_return-in-Some c =
+    let store = c.in-Exited.store in
+    let program = c.args.program.now in
+    let new = all_waiting c.pop.new.self in
+    let after = c.in_ok-after-in-Some.after in
+    subst (λ (at : At). TurnsAs program (state_of at (all_waiting c.args.waiting.now)) new c.args.recorder.now c.note_return.new.recorder (turned.Goes after))
+    (sym c.in-Exited.is)
+    (subst (λ (ws : List Suspended). TurnsAs program (exited store (all_waiting ws)) new c.args.recorder.now c.note_return.new.recorder (turned.Goes after))
+    (sym c.in-Some.ensures) (c.in_ok-after-in-Some.ensures new, c.in_ok-note_return-in-Some.ensures))
+
 pub returns-in-None : goal.returns-in-None
 returns-in-None c =
     let store = c.in-Exited.store in
