@@ -54,8 +54,12 @@ loop-step-preserved c =
     let turns = subst (TurnsAs program now (all_waiting c.turn.new.waiting) c.loop-step.recorder c.turn.new.recorder) c.in-Goes.is c.in_ok-after.ensures in
     one_left program c.args.number c.args.store c.args.steps c.args.recorder.now c.loop-step.recorder now c.loop-step._step c.loop-step.invariant
     c.loop-step-test.true
-    (λ left is going. (left, is, goes_on law program c.requires.program c.args.number c.args.store c.args.steps c.args.recorder.now
-    c.loop-step.recorder c.turn.new.recorder now after left going turns.0 turns.1))
+    (λ left is going. (
+      left,
+      is,
+      goes_on law program c.requires.program c.args.number c.args.store c.args.steps c.args.recorder.now
+          c.loop-step.recorder c.turn.new.recorder now after left going turns.0 turns.1,
+    ))
 
 pub returns-in-Ends-clause-traced : goal.returns-in-Ends-clause-traced
 returns-in-Ends-clause-traced c =

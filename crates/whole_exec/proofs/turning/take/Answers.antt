@@ -54,7 +54,8 @@ returns-in_ok-end-in-Some-clause-stops c =
 pub returns-in_ok-end-in-Some-clause-kept : goal.returns-in_ok-end-in-Some-clause-kept
 returns-in_ok-end-in-Some-clause-kept c =
     IfOk-weaker c.note_shown.result _ _ (λ end same. subst (λ (e : Result At Halted).
-    IfErr e (λ halted. all_waiting c.take_next.new.waiting ≡ all_waiting c.args.waiting.now)) (sym same) c.in_ok-end-in-Some.ensures.kept) c.note_shown.ensures.same
+    IfErr e (λ halted. all_waiting c.take_next.new.waiting ≡ all_waiting c.args.waiting.now)) (sym same) c.in_ok-end-in-Some.ensures.kept)
+    c.note_shown.ensures.same
 
 pub returns-in_ok-end-in-Some-clause-shows : goal.returns-in_ok-end-in-Some-clause-shows
 returns-in_ok-end-in-Some-clause-shows c =

@@ -41,10 +41,12 @@ returns-in-Err c =
     let halted = c.in-Err.halted in
     subst (λ (at : At). TurnsAs program (state_of at ws) new c.args.recorder.now c.take.new.recorder
     (turned.Ends (end.Fail halted.cause halted.line) halted.at)) (sym c.in-Running.is) (
-      (subst (λ (end : Result At Halted). Takes program (entry_of a) ws c.in-Running.store (left_of a.left) (turn_of new end)) c.in-Err.is
-          c.in_ok-after-in-Running.ensures.goes,
-          halted_at program (entry_of a) c.in-Running.store (left_of a.left) c.in_ok-after-in-Running.field-0 halted c.in-Err.is
-          c.in_ok-after-in-Running.ensures.stops),
+      (
+        subst (λ (end : Result At Halted). Takes program (entry_of a) ws c.in-Running.store (left_of a.left) (turn_of new end)) c.in-Err.is
+            c.in_ok-after-in-Running.ensures.goes,
+        halted_at program (entry_of a) c.in-Running.store (left_of a.left) c.in_ok-after-in-Running.field-0 halted c.in-Err.is
+            c.in_ok-after-in-Running.ensures.stops,
+      ),
       kept_at ws new c.in_ok-after-in-Running.field-0 halted c.in-Err.is c.in_ok-after-in-Running.ensures.kept,
       subst (ShowsAs c.args.recorder.now c.take.new.recorder (left_shows program.types (entry_of a).proc.last c.in-Running.store (left_of a.left))) c.in-Err.is
           c.in_ok-after-in-Running.ensures.shows,
