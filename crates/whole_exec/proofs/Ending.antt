@@ -24,7 +24,7 @@ use Rattle.whole_exec.proofs.Naming.{IsNamed, StandFits, rest-fits, stop-fits}
 pub end_traced : (program : TypedProgram) (first n : ℕ) (state : State) (e : RunEnd) (at : StoreMap) → EndsAs program state e at →
     Traces program first (suc n) state [] (stand_at first state at) (answer_with at e)
 end_traced program first n state end.Running at h = absurd h
-end_traced program first n (runs f waiting) (end.Fail why line) at (leads, stops) = (fails why line, leads, at, stops, refl, refl, refl)
+end_traced program first n (runs f waiting) (end.Fail why line) at (leads, stops) = (fails why line, leads, (at, stops, refl, refl, refl))
 end_traced program first n (exited t []) (end.Fail why line) at (leads, stops) = absurd leads
 end_traced program first n (exited t (w ∷ waiting)) (end.Fail why line) at (leads, stops) = absurd stops
 end_traced program first n state end.Exit at is =

@@ -42,9 +42,9 @@ pub record IsGoing (program : TypedProgram) (number : ℕ) (s : StoreMap) (steps
 pub traces_on : (program : TypedProgram) (first n : ℕ) (now next : State) (later : List Event) (stand : Stand) (answer : Answer) →
     Leads program now (goes next) → Traces program first n next later stand answer →
     Traces program first (suc n) now (state_shows program now ++ later) stand answer
-traces_on program first n (runs f waiting) next later stand answer leads traces = (goes next, leads, later, refl, traces)
+traces_on program first n (runs f waiting) next later stand answer leads traces = (goes next, leads, (later, refl, traces))
 traces_on program first n (exited t []) next later stand answer leads traces = absurd leads
-traces_on program first n (exited t (w ∷ waiting)) next later stand answer leads traces = (goes next, leads, later, refl, traces)
+traces_on program first n (exited t (w ∷ waiting)) next later stand answer leads traces = (goes next, leads, (later, refl, traces))
 
 -- where the run stands in the loop, with so many steps done
 abbrev pub Stage : TypedProgram → ℕ → StoreMap → ℕ → Option (List Event) → Option (List Event) → State → ℕ → Type 0

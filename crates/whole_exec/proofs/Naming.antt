@@ -74,8 +74,8 @@ module _ (program : TypedProgram) (number : ℕ) where
     form-on left s Later turn later (Stmt-F.While place c invariant body) (inr (why, wrong, is)) = stops-on turn why place.line is
     form-on left s Later turn later (Stmt-F.Split place a) (inl (none, is)) = subst OnNamed (sym is) (named, callers)
     form-on left s Later turn later (Stmt-F.Split place a) (inr (why, wrong, is)) = stops-on turn why place.line is
-    form-on left s Later turn later (Stmt-F.Call place call) (u, ran, inl (none, callee, cells, there, part, is)) =
-        subst OnNamed (sym is) (there, named, callers)
+    form-on left s Later turn later (Stmt-F.Call place call) (u, ran, inl (none, (callee, cells, there, part, is))) =
+        subst OnNamed (sym is) (there, (named, callers))
     form-on left s Later turn later (Stmt-F.Call place call) (u, ran, inr (why, wrong, is)) = stops-on turn why place.line is
 
     -- the settings at an exit keep the store fitting
@@ -96,7 +96,7 @@ module _ (program : TypedProgram) (number : ℕ) where
   pub leads-on : (state : State) (turn : Turn) → Holds program state → IsNamed state → Leads program state turn → OnNamed turn
   leads-on (runs f waiting) turn holds (named, callers) leads = takes-on f.entry waiting named callers f.store holds.well turn f.left leads
   leads-on (exited t []) turn holds named leads = absurd leads
-  leads-on (exited t (w ∷ waiting)) turn holds (it, named, callers) (callee, there, is) = subst OnNamed (sym is) (named, callers)
+  leads-on (exited t (w ∷ waiting)) turn holds (it, (named, callers)) (callee, there, is) = subst OnNamed (sym is) (named, callers)
 
   -- ---- where it stops the store fits
 

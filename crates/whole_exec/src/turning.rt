@@ -29,9 +29,9 @@ use pale_typed::{Stmt, Typed};
 use plain_data::Stack;
 use std::alloc::{AllocError, Global};
 use store_core::Store;
+use store_logic::{Act, Assertion, Cond};
 use store_runner::read_truth;
 use store_trace::Recorder;
-use store_logic::{Act, Assertion, Cond};
 
 /// What a step leads to.
 #[derive(Drop)]
@@ -239,9 +239,7 @@ fn take_next<'a>(
 {
     match found {
         Next::Do(line, act) => take_act(alloc, program, activation, store, line, act),
-        Next::If(line, cond, yes, no) => {
-            take_if(alloc, activation, store, line, cond, yes, no)
-        }
+        Next::If(line, cond, yes, no) => { take_if(alloc, activation, store, line, cond, yes, no) }
         Next::While(met) => take_while(alloc, program, activation, store, met),
         Next::Behind(behind) => take_behind(alloc, activation, store, behind),
         Next::Split(place, assertion) => {
@@ -304,10 +302,7 @@ pub(crate) fn turn<'a>(
         At::Running(activation, store) => {
             match take(alloc, program, activation, store, waiting, recorder)? {
                 Ok(after) => Ok(Turned::Goes(after)),
-                Err(halted) => Ok(Turned::Ends(
-                    RunEnd::Fail(halted.cause, halted.line),
-                    halted.at,
-                )),
+                Err(halted) => Ok(Turned::Ends(RunEnd::Fail(halted.cause, halted.line), halted.at)),
             }
         }
         At::Exited(store) => match waiting.pop() {

@@ -54,8 +54,12 @@ loop-step-preserved c =
     let turns = subst (TurnsAs program now (all_waiting c.turn.new.waiting) c.loop-step.recorder c.turn.new.recorder) c.in-Goes.is c.in_ok-after.ensures in
     one_left program c.args.number c.args.store c.args.steps c.args.recorder.now c.loop-step.recorder now c.loop-step._step c.loop-step.invariant
     c.loop-step-test.true
-    (λ left is going. (left, is, goes_on law program c.requires.program c.args.number c.args.store c.args.steps c.args.recorder.now
-    c.loop-step.recorder c.turn.new.recorder now after left going turns.0 turns.1))
+    (λ left is going. (
+      left,
+      is,
+      goes_on law program c.requires.program c.args.number c.args.store c.args.steps c.args.recorder.now
+          c.loop-step.recorder c.turn.new.recorder now after left going turns.0 turns.1,
+    ))
 
 pub returns-in-Ends-clause-traced : goal.returns-in-Ends-clause-traced
 returns-in-Ends-clause-traced c =
@@ -66,7 +70,7 @@ returns-in-Ends-clause-traced c =
     one_left program c.args.number c.args.store c.args.steps c.args.recorder.now c.loop-step.recorder now c.loop-step._step c.loop-step.invariant
     c.loop-step-test.true
     (λ left is going. ended_at program c.args.number c.args.store c.args.steps c.args.recorder.now c.loop-step.recorder c.turn.new.recorder now left
-    c.proc_at.result new c.in-Ends.end c.in-Ends.at going ends.0 ends.1 ends.2 c.proc_at.ensures)
+    c.proc_at-proc.result new c.in-Ends.end c.in-Ends.at going ends.0 ends.1 ends.2 c.proc_at-proc.ensures)
 
 pub returns-clause-traced : goal.returns-clause-traced
 returns-clause-traced c =
@@ -84,7 +88,7 @@ returns-in-Ends-clause-fits c =
     let new = all_waiting c.turn.new.waiting in
     let ends = subst (TurnsAs program now new c.loop-step.recorder c.turn.new.recorder) c.in-Ends.is c.in_ok-after.ensures in
     let going = c.loop-step.invariant.2 in
-    subst (λ (n : ℕ). StandFits program c.args.number n c.in-Ends.at) (sym (c.proc_at.ensures ∙ ap (proc_at c.args.number) ends.1))
+    subst (λ (n : ℕ). StandFits program c.args.number n c.in-Ends.at) (sym (c.proc_at-proc.ensures ∙ ap (proc_at c.args.number) ends.1))
     (end_fits program c.args.number c.claims_with_actuals_put_in_fit.ensures c.requires.program now c.in-Ends.end c.in-Ends.at ends.0
     going.holds going.named)
 
