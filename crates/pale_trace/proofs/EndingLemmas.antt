@@ -29,14 +29,10 @@ use Rattle.pale_run.specs.declared.answer.Answer.TheVariants as answer
 use Rattle.pale_run.specs.Runs.{RunsFrom}
 use Rattle.pale_run.specs.Runs as runs
 use Rattle.pale_trace.specs.declared.ending.Ending.{Ending}
-use Rattle.pale_trace.specs.Endings.{ends_as_replay, ends_as_run, run_line}
+use Rattle.pale_trace.specs.Endings.{ends_as_replay, ends_as_run, run_line, Has}
 use Rattle.pale_trace.specs.Lines.{triple_ending, triple_text, answer_line, run_ending, run_text}
 use Rattle.pale_trace.specs.Traces.{IsUnmet, not_well_formed, start_false, TripleSays, RunSays}
 use Rattle.pale_trace.specs.Traces as traces
-
--- the line of an answer stands in a text
-abbrev pub Has : List ℕ → List ℕ → Type 0
-Has line written = (before : List ℕ) × (behind : List ℕ) × (written ≡ before ++ line ++ behind)
 
 alone : (line : List ℕ) → Has line line
 alone line = ([], [], sym (append-nil line))
@@ -76,17 +72,13 @@ module _ (program : TypedProgram) (t : Triple) (e : ProcEntry) (s : StoreMap) wh
             at_line = at_line;
           }),
           refl,
-          trace_lines program t.proc shown,
-          stand_text program t.proc at,
-          refl,
+          (trace_lines program t.proc shown, stand_text program t.proc at, refl),
         )
     executed shown at (Err fault) meets traces = (
       replayed.Fails fault.cause fault.line,
       replays.fails fault.cause fault.line meets (fails program.types e.vars t s at shown fault traces),
       refl,
-      trace_lines program t.proc shown,
-      stand_text program t.proc at,
-      refl,
+      (trace_lines program t.proc shown, stand_text program t.proc at, refl),
     )
 
     pub ends_replayed : (how : Ending) (written : List ℕ) → TripleSays program t e s how written → Replayed how written

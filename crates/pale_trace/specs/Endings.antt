@@ -1,5 +1,5 @@
 -- How a trace ends, by what `replay` and `run` answer.
-use Rattle.std.specs.Prelude.{List, ℕ, codes}
+use Rattle.std.specs.Prelude.{◌≡◌, List, ℕ, ◌++◌, codes}
 use Rattle.store_core.specs.Tables.{TypeEntry, VarEntry}
 use Rattle.whole_exec.specs.declared.answer.Answer as whole
 use Rattle.whole_exec.specs.declared.answer.Answer.TheVariants as ran
@@ -40,3 +40,7 @@ run_line types vars (answer.StoreRefused line kind) = store_refused_line line ki
 run_line types vars (answer.NotWellFormed wrong) = not_well_formed_line types vars wrong
 run_line types vars answer.StartFalse = start_false_line
 run_line types vars (answer.Ran a) = ran_line a
+
+-- the line stands in a text
+abbrev pub Has : List ℕ → List ℕ → Type 0
+Has line written = (before : List ℕ) × (behind : List ℕ) × (written ≡ before ++ line ++ behind)

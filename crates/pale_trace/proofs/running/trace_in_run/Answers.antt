@@ -27,9 +27,9 @@ returns-in-StartFalse c =
     says_false c.args.program.now c.args.named.number c.args.named.steps c.args.text.now c.in_ok-fault.field-0 c.in_ok-fault.ensures
     c.in-StartFalse.is c.start_false.result c.start_false.ensures
 
-pub returns-in_ok-run : goal.returns-in_ok-run
-returns-in_ok-run c =
-    let run = c.in_ok-run.run in
+pub returns-in_ok-run-in-Meets : goal.returns-in_ok-run-in-Meets
+returns-in_ok-run-in-Meets c =
+    let run = c.in_ok-run-in-Meets.run in
     says_met c.args.program.now c.args.named.number c.args.named.steps c.args.text.now c.in_ok-fault.field-0 c.in_ok-fault.ensures
-    c.in-Meets.store c.in-Meets.is run.events (stand_of run.proc run.at) (answer_with run.at run.end) c.in_ok-run.ensures.traced
+    c.in-Meets.store c.in-Meets.is run.events (stand_of run.proc run.at) (answer_with run.at run.end) c.in_ok-run-in-Meets.ensures.traced
     c.run_told.result c.run_told.ensures

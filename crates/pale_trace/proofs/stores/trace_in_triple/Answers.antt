@@ -17,7 +17,7 @@ pub triple_told-requires : goal.triple_told-requires
 triple_told-requires c =
     let whole = c.args.whole.now in
     stands_fit whole.typed c.args.triple.now c.types-types.result.now c.in-Some.vars.now c.types-types.ensures c.in-Some.ensures
-    c.in_ok-traced.traced.at c.in_ok-traced.ensures.fits c.requires.fits.entry c.requires.fits.there
+    c.in_ok-traced-in-Meets.traced.at c.in_ok-traced-in-Meets.ensures.fits c.requires.fits.entry c.requires.fits.there
 
 pub returns-in-Refused : goal.returns-in-Refused
 returns-in-Refused c =
@@ -38,10 +38,10 @@ returns-in-StartFalse c =
     says_false whole.typed c.args.triple.now c.types-types.result.now c.in-Some.vars.now c.types-types.ensures c.in-Some.ensures whole.triples
     c.args.text.now c.in_ok-fault.field-0 c.in_ok-fault.ensures c.in-StartFalse.is c.start_false.result c.start_false.ensures
 
-pub returns-in_ok-traced : goal.returns-in_ok-traced
-returns-in_ok-traced c =
+pub returns-in_ok-traced-in-Meets : goal.returns-in_ok-traced-in-Meets
+returns-in_ok-traced-in-Meets c =
     let whole = c.args.whole.now in
-    let traced = c.in_ok-traced.traced in
+    let traced = c.in_ok-traced-in-Meets.traced in
     says_met whole.typed c.args.triple.now c.types-types.result.now c.in-Some.vars.now c.types-types.ensures c.in-Some.ensures whole.triples
     c.args.text.now c.in_ok-fault.field-0 c.in_ok-fault.ensures c.in-Meets.store c.in-Meets.is traced.events traced.at traced.end
-    c.in_ok-traced.ensures.traced c.triple_told.result c.triple_told.ensures
+    c.in_ok-traced-in-Meets.ensures.traced c.triple_told.result c.triple_told.ensures
