@@ -29,7 +29,7 @@ returns-in-StartFalse c =
 
 pub returns-in_ok-run-in-Meets : goal.returns-in_ok-run-in-Meets
 returns-in_ok-run-in-Meets c =
-    let run = c.in_ok-run-in-Meets.run in
+    let run = c.in_ok-run-in-Meets.run' in
     says_met c.args.program.now c.args.named.number c.args.named.steps c.args.text.now c.in_ok-fault.field-0 c.in_ok-fault.ensures
     c.in-Meets.store c.in-Meets.is run.events (stand_of run.proc run.at) (answer_with run.at run.end) c.in_ok-run-in-Meets.ensures.traced
     c.run_told.result c.run_told.ensures
