@@ -1,18 +1,15 @@
 -- A text that spells a store in the run of a procedure is answered by what comes of that store.
-use Rattle.std.proofs.Common.{◌≡◌, ◌∙◌, ◌≤◌, ◌++◌, ℕ, List, ◌∷◌, drop, length, Some, None, Ok, Err, slice_get, codes, refl, sym, ap, subst, arith}
+use Rattle.std.proofs.Common.{◌≡◌, ◌∙◌, ◌≤◌, ℕ, List, ◌∷◌, length, Some, None, Ok, Err, slice_get, refl, sym, ap, subst, arith}
 use Rattle.std.proofs.lemmas.Option.{same_Some}
 use Rattle.pale_text.specs.declared.refusal.Refusal.{Refusal}
 use Rattle.pale_text.specs.declared.refusal.TextStop.TheVariants as stop
 use Rattle.store_core.specs.Stores.{StoreMap}
-use Rattle.store_exec.specs.declared.triple.Triple.{Triple}
 use Rattle.store_text.specs.declared.fault.StoreKind.{StoreKind}
 use Rattle.store_text.specs.Lines.{lines_of}
 use Rattle.store_text.specs.Reading.{read_text}
-use Rattle.store_text.specs.Spelling.{number_of}
 use Rattle.pale_typed.specs.declared.typed.ProcEntry.{ProcEntry}
 use Rattle.pale_typed.specs.TypedPrograms.{TypedProgram}
 use Rattle.whole_program.specs.ProgramTexts.{IsReadAs, IsRefusedAs}
-use Rattle.pale_parts.specs.Parts.{IsRunLine}
 use Rattle.pale_parts.proofs.RunLineLemmas.{one_run}
 use Rattle.pale_starts.specs.Stops.{IsPartStop, uncut_stop, cut_stop}
 use Rattle.pale_run.specs.declared.answer.Answer.{Answer}

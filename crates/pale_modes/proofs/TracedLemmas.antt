@@ -1,5 +1,5 @@
 -- A text that spells a store in a triple, or in the run of a procedure, is answered by the trace of that store.
-use Rattle.std.proofs.Common.{◌≡◌, ◌∙◌, ◌≤◌, ◌++◌, ℕ, suc, List, ◌∷◌, length, Some, None, Ok, Err, slice_get, codes, refl, sym, ap, subst, arith}
+use Rattle.std.proofs.Common.{◌≡◌, ◌∙◌, ◌≤◌, ℕ, suc, List, ◌∷◌, length, Some, None, Ok, Err, slice_get, refl, sym, ap, subst, arith}
 use Rattle.std.proofs.lemmas.Option.{same_Some}
 use Rattle.pale_text.specs.declared.refusal.Refusal.{Refusal}
 use Rattle.pale_text.specs.declared.refusal.TextStop.TheVariants as stop
@@ -26,7 +26,7 @@ use Rattle.pale_modes.specs.Tracing.{Traces, status_of, too_long, refused, trace
 use Rattle.pale_modes.specs.Completing.{SpellsStore, SpellsRun, TellsTrace, TellsTriple, TellsRunTrace}
 use Rattle.pale_modes.proofs.CutLemmas.{one_cut, cut_or_not}
 use Rattle.pale_modes.proofs.ReplayedLemmas.{Laws, one-place, one-triple}
-use Rattle.pale_modes.proofs.RanLemmas.{Same, one_named, not-unnamed}
+use Rattle.pale_modes.proofs.RanLemmas.{one_named, not-unnamed}
 
 -- no line has both forms
 forms_apart : (line : List ℕ) (number : ℕ) (name : List ℕ) (steps : ℕ) → IsTripleLine line number → IsRunLine line name steps → ⊥

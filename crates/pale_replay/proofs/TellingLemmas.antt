@@ -1,7 +1,7 @@
 -- What is said of a store text in a triple.
 use Rattle.std.proofs.Common.{◌≡◌, ◌+◌, ◌-◌, ◌<◌, ◌≤◌, ◌==◌, ℕ, suc, true, List, [], ◌∷◌, length, Option, Some, None, Ok, Err, option_map, sym, ap, ◌∙◌, subst}
 use Rattle.std.proofs.Common.{Result, IfSome, IfNone, arith, refl}
-use Rattle.std.specs.Prelude.{slice_get, IfOk, IfErr, IsErrAnd}
+use Rattle.std.specs.Prelude.{slice_get, IfOk}
 use Rattle.std.proofs.lemmas.Bool.Decides.{nat_tests}
 use Rattle.std.specs.Borrow.{Bor}
 use Rattle.store_core.specs.Tables.{TypeEntry, VarEntry}

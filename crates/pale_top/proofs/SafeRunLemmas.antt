@@ -22,7 +22,7 @@ use Rattle.pale_modes.specs.declared.status.Status.{Status}
 use Rattle.pale_modes.specs.declared.status.Status.TheVariants.{Bad}
 use Rattle.pale_modes.specs.Running.{Runs, status_of, status_of_ran}
 use Rattle.pale_modes.specs.Running as running
-use Rattle.pale_modes.proofs.CutLemmas.{one_cut, cut_or_not}
+use Rattle.pale_modes.proofs.CutLemmas.{one_cut}
 use Rattle.program_promises.specs.Safety.{RunsNeverFail, IsSafe}
 use Rattle.pale_top.specs.Output.{CallOutput}
 use Rattle.pale_top.proofs.CompletingLemmas.{call_of}

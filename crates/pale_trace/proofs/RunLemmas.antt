@@ -1,5 +1,5 @@
 -- What is said of a store text in the run of a procedure.
-use Rattle.std.proofs.Common.{◌≡◌, ◌∙◌, ◌+◌, ◌≤◌, ℕ, List, ◌∷◌, Option, Some, Ok, Err, Result, option_map, sym, ap, subst}
+use Rattle.std.proofs.Common.{◌≡◌, ◌∙◌, ◌+◌, ◌≤◌, ℕ, List, ◌∷◌, Some, Ok, Err, Result, option_map, sym, ap, subst}
 use Rattle.std.specs.Prelude.{slice_get, IfOk}
 use Rattle.store_core.specs.Tables.{TypeEntry, VarEntry}
 use Rattle.store_core.specs.Stores.{StoreMap}

@@ -19,7 +19,7 @@ use Rattle.pale_run.specs.Running.{NamesRun, NamesNoRun}
 use Rattle.pale_trace.specs.declared.ending.Ending.{Ending}
 use Rattle.pale_trace.specs.declared.ending.Ending.TheVariants as ending
 use Rattle.pale_trace.specs.declared.ending.Trace.{Trace}
-use Rattle.pale_trace.specs.Tracing.{AsksNothing, no_run, no_triple, IsRefusedAt, nothing, no_request, SaysOf, refused, IsTraceOf, uncut, cut}
+use Rattle.pale_trace.specs.Tracing.{no_run, no_triple, IsRefusedAt, nothing, no_request, SaysOf, refused, IsTraceOf, uncut, cut}
 
 -- a trace says this ending in this text
 abbrev pub Says : Ending → List ℕ → Trace → Type 0

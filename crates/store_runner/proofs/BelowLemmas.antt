@@ -13,7 +13,6 @@ use Rattle.store_core.specs.Tables.{TypeEntry}
 use Rattle.store_core.specs.Stores.{StoreMap, CellEntry, class_of, cell_of, field_of, field_value, var_value, IsFresh, NamesBelow, put_cell, set_field}
 use Rattle.store_core.proofs.Bodies.{AllByRecursion-at}
 use Rattle.store_core.proofs.FittingLemmas.{IfSome-at, same_type}
-use Rattle.store_laws.specs.Changed.{next_cell}
 use Rattle.store_laws.proofs.CellLemmas.{put_elsewhere}
 use Rattle.store_logic.specs.Terms.{null, cell_in}
 use Rattle.store_exec.specs.declared.cause.Cause.{Cause}

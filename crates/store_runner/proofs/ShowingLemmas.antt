@@ -1,21 +1,14 @@
 -- What an assignment shows, by the value that is given.
-use Rattle.std.proofs.Common.{◌≡◌, ℕ, Bool, true, List, [], ◌∷◌, Result, Ok, Err, refl, sym, ap, subst}
+use Rattle.std.proofs.Common.{◌≡◌, ℕ, Bool, [], ◌∷◌, Result, Ok, Err, refl, ap}
 use Rattle.store_core.specs.declared.value.Value.{Value}
 use Rattle.store_core.specs.declared.value.Value.TheVariants as value
-use Rattle.store_core.specs.Tables.{TypeEntry}
 use Rattle.store_core.specs.Stores.{StoreMap}
 use Rattle.store_logic.specs.declared.path.Path.{Path}
-use Rattle.store_logic.specs.declared.act.Rhs.{Rhs}
 use Rattle.store_exec.specs.declared.cause.Cause.{Cause}
-use Rattle.store_exec.specs.declared.halt.Halt.{Halt}
-use Rattle.store_exec.specs.declared.halt.Halt.TheVariants as halt
-use Rattle.store_exec.specs.Steps.{made_of, evaluated}
+use Rattle.store_exec.specs.Steps.{made_of}
 use Rattle.store_exec.proofs.SortLemmas.{ok-one, err-ok}
-use Rattle.store_trace.specs.declared.event.Event.{Event}
 use Rattle.store_trace.specs.declared.event.Event.TheVariants as event
 use Rattle.store_trace.specs.Showing.{set_events}
-use Rattle.store_runner.specs.Conditions.{IsTold, IsToldBy}
-use Rattle.store_runner.specs.Recordings.{IsGiven}
 
 abbrev pub value_in : StoreMap × Value → Value
 value_in got = got.1

@@ -7,7 +7,6 @@ use Rattle.store_core.specs.Stores.{StoreMap}
 use Rattle.store_logic.specs.declared.act.Rhs.{Rhs}
 use Rattle.store_logic.specs.declared.act.Act.{Act}
 use Rattle.store_logic.specs.declared.cond.Cond.{Cond}
-use Rattle.store_exec.specs.declared.cause.Cause.{Cause}
 use Rattle.store_exec.specs.declared.fault.Fault.{Fault}
 use Rattle.store_exec.specs.declared.halt.Halt.{Halt}
 use Rattle.store_exec.specs.declared.halt.Halt.TheVariants as halt

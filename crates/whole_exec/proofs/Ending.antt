@@ -1,5 +1,5 @@
 -- Where runs end.
-use Rattle.std.proofs.Common.{◌≡◌, ℕ, zero, suc, List, [], ◌∷◌, Option, Result, Err, IfErr, refl, sym, ap, ◌∙◌, subst}
+use Rattle.std.proofs.Common.{◌≡◌, ℕ, suc, List, [], ◌∷◌, Option, Result, Err, IfErr, refl, sym, ap, ◌∙◌, subst}
 use Rattle.store_core.specs.Stores.{StoreMap}
 use Rattle.pale_typed.specs.TypedPrograms.{TypedProgram}
 use Rattle.pale_typed.specs.Fitting.{ProgramFits}

@@ -1,18 +1,18 @@
 -- Traces of whole runs, and the runs.
-use Rattle.std.proofs.Common.{◌≡◌, inl, inr, ℕ, zero, suc, List, [], ◌∷◌, ◌++◌, Ok, refl}
+use Rattle.std.proofs.Common.{ℕ, zero, suc, List, [], ◌∷◌, ◌++◌, refl}
 use Rattle.store_core.specs.Stores.{StoreMap}
 use Rattle.store_exec.specs.declared.cause.Cause.{Cause}
 use Rattle.pale_typed.specs.declared.typed.ProcEntry.{ProcEntry}
 use Rattle.pale_typed.specs.declared.typed.Stmt.{Stmt, out-Stmt}
 use Rattle.pale_typed.specs.declared.typed.Stmt.TheOpen.{Stmt-F}
 use Rattle.pale_typed.specs.TypedPrograms.{TypedProgram}
-use Rattle.whole_run.specs.States.{Waiting, State, runs, exited, Turn, goes, fails, Answer, Running, Fail, Exit}
-use Rattle.whole_run.specs.Turns.{TakesForm, Takes, Returns}
+use Rattle.whole_run.specs.States.{Waiting, State, runs, exited, Turn, goes, fails, Answer}
+use Rattle.whole_run.specs.Turns.{TakesForm, Takes}
 use Rattle.whole_run.specs.Runs.{EndsBy, Ends, WholeRun}
 use Rattle.store_trace.specs.declared.event.Event.{Event}
 use Rattle.whole_trace.specs.Shown.{state_shows}
 use Rattle.whole_trace.specs.Stopping.{FormStops, LeftStops, StopsAt}
-use Rattle.whole_trace.specs.Traces.{Stand, stand_at, store_of, Leads, TracesBy, Traces, TracedRun}
+use Rattle.whole_trace.specs.Traces.{Stand, stand_at, Leads, TracesBy, Traces, TracedRun}
 
 module _ (program : TypedProgram) where
   -- ---- where a step fails it stands somewhere

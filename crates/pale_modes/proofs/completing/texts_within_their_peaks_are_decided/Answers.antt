@@ -1,4 +1,3 @@
-use Rattle.pale_modes.proofs.ReplayedLemmas.{replayed}
 use Rattle.pale_modes.proofs.DecidedLemmas.{decided}
 use Rattle.pale_modes.proofs.completing.texts_within_their_peaks_are_decided.Goals as goal
 

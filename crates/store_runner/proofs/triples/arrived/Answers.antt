@@ -2,7 +2,7 @@ use Rattle.std.proofs.Common.{Option, sym, subst}
 use Rattle.store_exec.specs.declared.cause.Cause.{Cause}
 use Rattle.store_exec.specs.Cuts.{AtCut}
 use Rattle.store_exec.specs.Fits.{CutFits}
-use Rattle.store_trace.specs.Tracing.{fails, ends}
+use Rattle.store_trace.specs.Tracing.{fails}
 use Rattle.store_runner.proofs.TripleLemmas.{by_recursion_there, ends_with}
 use Rattle.store_runner.proofs.triples.arrived.Goals as goal
 

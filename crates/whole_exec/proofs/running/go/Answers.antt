@@ -1,4 +1,4 @@
-use Rattle.std.proofs.Common.{◌∙◌, ℕ, List, Option, is_some, sym, ap, subst, arith}
+use Rattle.std.proofs.Common.{◌∙◌, ℕ, List, is_some, sym, ap, subst, arith}
 use Rattle.whole_run.specs.States.{runs}
 use Rattle.whole_exec.specs.declared.activation.Suspended.{Suspended}
 use Rattle.whole_exec.specs.Answers.{answer_with, stand_of}

@@ -1,10 +1,8 @@
-use Rattle.std.proofs.Common.{◌≡◌, suc, List, Option, Result, refl, sym, ap, ◌∙◌, subst}
-use Rattle.store_trace.specs.declared.event.Event.{Event}
+use Rattle.std.proofs.Common.{List, Result, refl, sym, ap, subst}
 use Rattle.store_trace.specs.Recording.{recorded}
 use Rattle.whole_run.specs.States.{exited, goes}
 use Rattle.whole_run.specs.Turns.{Takes}
 use Rattle.whole_trace.specs.Shown.{left_shows}
-use Rattle.whole_trace.specs.Stopping.{LeftStops}
 use Rattle.whole_exec.specs.declared.activation.At.{At}
 use Rattle.whole_exec.specs.declared.activation.Suspended.{Suspended}
 use Rattle.whole_exec.specs.declared.halted.Halted.{Halted}
