@@ -26,6 +26,11 @@ from palec_parts.tracing import after, read_trace  # noqa: E402
 EXAMPLES = running.TOP / "examples"
 
 
+def hear_interrupts():
+    """What a shell runs behind itself ignores interrupts, and hands that on."""
+    signal.signal(signal.SIGINT, signal.SIG_DFL)
+
+
 def told(*words):
     """The status and what is written for these words."""
     out, errors = io.StringIO(), io.StringIO()
@@ -178,7 +183,7 @@ class Stopping(unittest.TestCase):
         program.chmod(0o755)
         (Path(room) / "a.pale").write_text("proc p() { }\n")
         child = subprocess.Popen([sys.executable, HERE / "palec", "check", Path(room) / "a.pale", *words], stdout=subprocess.PIPE, stderr=subprocess.STDOUT,
-                                 env={**os.environ, "PALE": str(program)})
+                                 env={**os.environ, "PALE": str(program)}, preexec_fn=hear_interrupts)
         return child, mark
 
     def is_left(self, mark):
