@@ -29,14 +29,14 @@ use Rattle.pale_modes.specs.Report.{too_long_line}
 use Rattle.pale_modes.specs.Texts.{most_bytes}
 use Rattle.program_judge.specs.declared.ways.Ending.{Ending}
 use Rattle.program_judge.specs.declared.ways.Ending.TheVariants as ending
-use Rattle.pale_top.specs.Checking.{Checks}
-use Rattle.pale_top.specs.Checking as checking
+use Rattle.pale_judging.specs.Checking.{Checks}
+use Rattle.pale_judging.specs.Checking as checking
 use Rattle.pale_top.specs.Output.{Answers, Begins, CallOutput, IsAnswer, IsCutShort, Output}
-use Rattle.pale_top.specs.Judging.{Judges, JudgesPart, JudgesRequest}
+use Rattle.pale_judging.specs.Judging.{Judges, JudgesPart, JudgesRequest}
 use Rattle.store_text.specs.Lines.{lines_of}
-use Rattle.pale_top.specs.Judging as judging
-use Rattle.pale_top.specs.Meeting.{MeetsText, MeetsProgram}
-use Rattle.pale_top.specs.Meeting as meeting
+use Rattle.pale_judging.specs.Judging as judging
+use Rattle.pale_judging.specs.Meeting.{MeetsText, MeetsProgram}
+use Rattle.pale_judging.specs.Meeting as meeting
 use Rattle.program_judge.specs.declared.meet_way.MeetWay.{MeetWay}
 use Rattle.program_judge.specs.Meets.{is_empty, is_at_limit}
 use Rattle.std.specs.List.{list_any}
@@ -46,8 +46,8 @@ use Rattle.program_judge.specs.declared.ways.TripleWay.{TripleWay}
 use Rattle.program_judge.specs.declared.ways.TripleWay.TheVariants as tripled
 use Rattle.program_judge.specs.Reports.{stopped_ending}
 use Rattle.pale_top.specs.Output.{check, replay, format, ws2s, judge, meet, run, trace, generated, refused, given}
-use Rattle.pale_top.specs.Generating.{Gens, Tells}
-use Rattle.pale_top.specs.Generating as generating
+use Rattle.pale_judging.specs.Generating.{Gens, Tells}
+use Rattle.pale_judging.specs.Generating as generating
 
 -- ---- the text that was read
 

@@ -38,17 +38,17 @@ use Rattle.program_judge.specs.Reports.{pointer_fields, ReportsFields, ReportsTr
 use Rattle.program_judge.specs.declared.ways.TripleWay.TheVariants as tripled
 use Rattle.program_promises.specs.Completeness.{IsTripleWithin}
 use Rattle.program_promises.specs.Telling.{TellsFields, TellsTriples, TellsProgram}
-use Rattle.pale_top.specs.Checking.{Checks, too_long, refused, judged}
+use Rattle.pale_judging.specs.Checking.{Checks, too_long, refused, judged}
 use Rattle.pale_top.specs.Completing.{ChecksEach, Completes, CountsEach, GensEach, MeetsEach}
 use Rattle.pale_top.specs.Completing as counting
-use Rattle.pale_top.specs.Judging.{Judges}
-use Rattle.pale_top.specs.Meeting.{MeetsText, MeetsProgram}
-use Rattle.pale_top.specs.Meeting as meeting
+use Rattle.pale_judging.specs.Judging.{Judges}
+use Rattle.pale_judging.specs.Meeting.{MeetsText, MeetsProgram}
+use Rattle.pale_judging.specs.Meeting as meeting
 use Rattle.program_judge.specs.declared.meet_way.MeetWay.{MeetWay}
 use Rattle.program_judge.specs.Meets.{ReportsMeets, AreStartsDecided}
 use Rattle.pale_top.proofs.JudgedLemmas as judged
-use Rattle.pale_top.specs.Generating.{Counts, Gens, Tells}
-use Rattle.pale_top.specs.Generating as generating
+use Rattle.pale_judging.specs.Generating.{Counts, Gens, Tells}
+use Rattle.pale_judging.specs.Generating as generating
 use Rattle.pale_top.specs.Output.{CallOutput, Output, check, replay, format, ws2s, judge, meet, run, trace, generated}
 use Rattle.pale_top.specs.Output as called
 

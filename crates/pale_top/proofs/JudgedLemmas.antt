@@ -25,8 +25,8 @@ use Rattle.program_judge.specs.declared.ways.TripleWay.TheVariants as tripled
 use Rattle.program_judge.specs.Reports.{pointer_fields, ReportsFields, ReportsTriple}
 use Rattle.program_promises.specs.Completeness.{IsTripleWithin}
 use Rattle.program_promises.specs.Telling.{TellsFields}
-use Rattle.pale_top.specs.Judging.{Judges, too_long, refused, uncut, cut, JudgesPart, no_part, no_request, asked, JudgesRequest}
-use Rattle.pale_top.specs.Judging as judging
+use Rattle.pale_judging.specs.Judging.{Judges, too_long, refused, uncut, cut, JudgesPart, no_part, no_request, asked, JudgesRequest}
+use Rattle.pale_judging.specs.Judging as judging
 use Rattle.pale_top.specs.Completing.{SpellsRequest, JudgesEach, some_field, each_field, one_triple}
 
 -- what the layers below say of readings and of reports

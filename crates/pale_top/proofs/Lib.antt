@@ -1,8 +1,5 @@
 mod CallLemmas
-mod CheckingLemmas
-mod JudgingLemmas
 mod JudgedLemmas
-mod MeetingLemmas
 mod PromiseLemmas
 mod CompletingLemmas
 mod SafeRunLemmas

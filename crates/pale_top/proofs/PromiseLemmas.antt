@@ -17,7 +17,7 @@ use Rattle.program_judge.specs.declared.ways.Ending.TheVariants as ending
 use Rattle.program_judge.specs.Reports.{ReportsProgram}
 use Rattle.program_promises.specs.Safety.{RunsNeverFail, IsSafe}
 use Rattle.program_promises.specs.Completeness.{ArePeaksWithin, IsWithinPeaks}
-use Rattle.pale_top.specs.Checking.{Checks, status_of, too_long, refused, judged}
+use Rattle.pale_judging.specs.Checking.{Checks, status_of, too_long, refused, judged}
 use Rattle.pale_top.specs.Output.{CallOutput, Output, check, replay, format, ws2s, judge, meet, run, trace, generated}
 use Rattle.pale_top.specs.Output as called
 

@@ -33,12 +33,12 @@ use Rattle.program_judge.specs.Lines.{stopped_line}
 use Rattle.program_judge.specs.Reports.{is_functional, stopped_ending, judged_ending, ReportsTriple}
 use Rattle.program_promises.specs.Completeness.{IsTripleWithin}
 use Rattle.program_promises.specs.Telling.{TellsFields, TellsTriples, TellsProgram}
-use Rattle.pale_top.specs.Checking.{status_of}
-use Rattle.pale_top.specs.Generating.{gen_line}
+use Rattle.pale_judging.specs.Checking.{status_of}
+use Rattle.pale_judging.specs.Generating.{gen_line}
 use Rattle.program_judge.specs.declared.meet_way.MeetWay.{MeetWay}
 use Rattle.program_judge.specs.Meets.{ReportsMeets, AreStartsDecided, totals_of}
-use Rattle.pale_top.specs.Judging.{status_of_way}
-use Rattle.pale_top.specs.Meeting.{meet_status}
+use Rattle.pale_judging.specs.Judging.{status_of_way}
+use Rattle.pale_judging.specs.Meeting.{meet_status}
 
 -- a report of the program in which each field and each triple within its own Peak has a verdict, and the status by how it ends
 pub record ChecksEach (limit : ℕ) (program : TypedProgram) (triples : List Triple) (output : List ℕ) (status : Status) : Type 0 where

@@ -12,10 +12,10 @@ use Rattle.pale_modes.specs.Replaying.{Replays}
 use Rattle.pale_modes.specs.Running.{Runs}
 use Rattle.pale_modes.specs.Tracing.{Traces}
 use Rattle.pale_modes.specs.Written.{Wrote, WroteAtMost}
-use Rattle.pale_top.specs.Checking.{Checks}
-use Rattle.pale_top.specs.Generating.{Gens}
-use Rattle.pale_top.specs.Judging.{Judges}
-use Rattle.pale_top.specs.Meeting.{MeetsText}
+use Rattle.pale_judging.specs.Checking.{Checks}
+use Rattle.pale_judging.specs.Generating.{Gens}
+use Rattle.pale_judging.specs.Judging.{Judges}
+use Rattle.pale_judging.specs.Meeting.{MeetsText}
 
 -- ---- a call
 

@@ -1,17 +1,10 @@
 //! What the program `pale` does with its words, over a source and a sink of bytes.
 //!
-//! `specs/Output.antt` says what a call writes and how it ends, with `specs/Checking.antt` for the mode `check`,
-//! `specs/Judging.antt` for `judge`, `specs/Meeting.antt` for `meet` and `specs/Generating.antt` for `gen`.
-//! The other modes are those of `pale_modes`, and the words are read by `pale_words`.
+//! `specs/Output.antt` says what a call writes and how it ends, and `specs/Completing.antt` what a text without a fault gets. The
+//! modes are those of `pale_judging` and `pale_modes`, and the words are read by `pale_words`.
 #![tactic(auto)]
 
 mod call;
-mod check;
-mod check_parts;
-mod generate;
-mod judge;
-mod meet;
-mod nowhere;
 mod text;
 
 pub use call::pale_main;

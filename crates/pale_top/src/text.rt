@@ -14,11 +14,8 @@ ghost use Rattle.program_promises.specs.Completeness.{IsWithinPeaks};
 ghost use Rattle.pale_top.specs.Completing.{Completes, GensEach};
 ghost use Rattle.pale_top.specs.Output.{IsAnswer, IsCutShort, CallOutput, Output, usage_line};
 
-use crate::check::check_text;
-use crate::generate::gen_text;
-use crate::judge::judge_text;
-use crate::meet::meet_text;
 use pale_io::{Sink, WriteStop};
+use pale_judging::{check_text, gen_text, judge_text, meet_text};
 use pale_modes::{
     Status, decide_text, ended, format_text, formatting_is_one, replay_text, run_text, say,
     texts_within_their_peaks_are_decided, trace_text,

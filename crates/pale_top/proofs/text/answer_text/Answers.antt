@@ -1,8 +1,8 @@
 use Rattle.std.proofs.Common.{rules}
 use Rattle.pale_modes.specs.Formatting.{Formats}
-use Rattle.pale_top.specs.Checking.{Checks}
-use Rattle.pale_top.specs.Judging.{Judges}
-use Rattle.pale_top.specs.Meeting.{MeetsText}
+use Rattle.pale_judging.specs.Checking.{Checks}
+use Rattle.pale_judging.specs.Judging.{Judges}
+use Rattle.pale_judging.specs.Meeting.{MeetsText}
 use Rattle.pale_top.specs.Output.{Output, check, replay, format, ws2s, judge, meet, run, trace}
 use Rattle.pale_modes.specs.Deciding.{Decides}
 use Rattle.pale_modes.specs.Replaying.{Replays}

@@ -1,0 +1,4 @@
+pub mod Checking
+pub mod Generating
+pub mod Judging
+pub mod Meeting
