@@ -186,7 +186,7 @@ module _ (program : TypedProgram) where
       (store_same P h.1 k.1 one other k.0 call f.store) (rest_same P h.1 k.1 one other f.store)
       ∙ sym k.4
 
-  returns_one : (t : StoreMap) (w : Waiting) (waiting : List Waiting) → One (Returns program t w waiting)
+  pub returns_one : (t : StoreMap) (w : Waiting) (waiting : List Waiting) → One (Returns program t w waiting)
   returns_one t w waiting a c h k =
       let same : h.0 ≡ k.0 = some_same h.0 k.0 (sym h.1 ∙ k.1) in
       h.2
@@ -226,7 +226,7 @@ module _ (program : TypedProgram) where
       (λ u. arrives_one program.types entry.vars u (plain_cut entry.proc.last entry.proc.post) (λ t next. next ≡ goes (exited t waiting))
       (λ t. is_one (goes (exited t waiting))))
 
-  takes_one : (entry : ProcEntry) (waiting : List Waiting) (s : StoreMap) (left : List Stmt) → One (Takes program entry waiting s left)
+  pub takes_one : (entry : ProcEntry) (waiting : List Waiting) (s : StoreMap) (left : List Stmt) → One (Takes program entry waiting s left)
   takes_one entry waiting s [] = exits_one entry waiting s
   takes_one entry waiting s (next ∷ left) =
       form_one entry waiting s left (Takes program entry waiting s left) (takes_one entry waiting s left) (out-Stmt next)

@@ -1,1 +1,2 @@
+pub mod OneTrace
 pub mod TraceLaws

@@ -8,10 +8,13 @@ ghost use Rattle.whole_run.specs.States.{Answer};
 ghost use Rattle.whole_run.specs.Runs.{WholeRun};
 ghost use Rattle.whole_trace.specs.Traces.{Stand, TracedRun};
 
-/// The answer of a trace is the run's, and each run has a trace.
+/// The answer of a trace is the run's; each run has a trace; and it has one trace alone.
 pub fn traces_are_whole_runs()
     ensures answers { (program : TypedProgram) (number : ℕ) (s : StoreMap) (n : ℕ) (shown : List Event) (stand : Stand) (answer : Answer) →
         TracedRun program number s n shown stand answer → WholeRun program number s n answer }
     ensures traces { (program : TypedProgram) (number : ℕ) (s : StoreMap) (n : ℕ) (answer : Answer) → WholeRun program number s n answer →
         (shown : List Event) × (stand : Stand) × TracedRun program number s n shown stand answer }
+    ensures one { (program : TypedProgram) (number : ℕ) (s : StoreMap) (n : ℕ) (shown other : List Event) (stand also : Stand) (answer reply : Answer) →
+        TracedRun program number s n shown stand answer → TracedRun program number s n other also reply →
+        (shown ≡ other) × (stand ≡ also) × (answer ≡ reply) }
 {}
