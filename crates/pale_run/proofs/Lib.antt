@@ -1,4 +1,3 @@
 pub mod NamingLemmas
 pub mod EntryLemmas
-pub mod ExitLemmas
 pub mod TellingLemmas

@@ -1,14 +1,13 @@
 -- What is said of a store text in a procedure's run.
 use Rattle.std.proofs.Common.{◌≡◌, ◌∙◌, ◌+◌, ◌≤◌, ◌==◌, ℕ, true, List, [], ◌∷◌, length, Option, Some, None, Ok, Err, option_map, refl, sym, ap, subst, arith}
 use Rattle.std.proofs.Common.{Result, IfSome, IfNone}
-use Rattle.std.specs.Prelude.{slice_get, IfOk}
+use Rattle.std.specs.Prelude.{slice_get, IfOk, IsSomeAnd}
 use Rattle.std.specs.Borrow.{Bor}
 use Rattle.std.proofs.lemmas.Bool.Decides.{nat_tests}
 use Rattle.store_core.specs.Tables.{TypeEntry, VarEntry}
 use Rattle.store_core.specs.Stores.{StoreMap, Fits}
 use Rattle.routing_walks.specs.declared.fault.WfFault.{WfFault}
 use Rattle.routing_walks.specs.WellFormed.{IsWellFormed}
-use Rattle.routing_walks.proofs.FreshLemmas.{IsFresh-well_formed}
 use Rattle.store_exec.specs.declared.triple.Triple.{Triple}
 use Rattle.store_exec.specs.Failing.{StartHolds}
 use Rattle.store_text.specs.declared.fault.StoreFault.{StoreFault}
@@ -18,11 +17,9 @@ use Rattle.store_text.specs.Lines.{lines_of}
 use Rattle.store_text.specs.Reading.{read_text}
 use Rattle.pale_typed.specs.declared.typed.ProcEntry.{ProcEntry}
 use Rattle.pale_typed.specs.TypedPrograms.{TypedProgram}
-use Rattle.pale_typed.specs.Fitting.{ProgramFits}
 use Rattle.hoare_split.specs.Starts.{entry_start}
 use Rattle.whole_program.specs.ProgramTexts.{IsReadAs}
 use Rattle.whole_run.specs.Runs.{WholeRun}
-use Rattle.whole_run.proofs.AnswerLaws.{Laws}
 use Rattle.whole_exec.specs.declared.answer.Answer as whole
 use Rattle.whole_exec.specs.declared.answer.Answer.TheVariants as outcome
 use Rattle.whole_exec.specs.Answers.{answer_of}
@@ -41,7 +38,6 @@ use Rattle.pale_run.specs.Lines.{text_of, ExitFits}
 use Rattle.pale_run.specs.Runs.{RunsFrom, not_well_formed, start_false, ran}
 use Rattle.pale_run.specs.Running.{NamesRun, NamesNoRun, IsRefusedAt, nothing, no_run, no_store, SaysOf, refused, store, IsRunOf, uncut, cut}
 use Rattle.pale_run.proofs.EntryLemmas.{meets_entry, entry_holds, can_start}
-use Rattle.pale_run.proofs.ExitLemmas.{exit_fits}
 
 -- a run says this answer in this text
 abbrev pub Says : Answer → List ℕ → Run → Type 0
@@ -129,14 +125,13 @@ module _ (program : TypedProgram) (number steps : ℕ) (types : List TypeEntry) 
           record { of_store = s; read = read; comes = ran a (meets_entry program number e there s well holds) runs })
 
       -- and that of the exit fits
-      pub exits_fit : Laws → ProgramFits program → (e : ProcEntry) → slice_get program.procs number ≡ Some e → (a : whole.Answer) →
-          WholeRun program number s steps (answer_of a) → ExitFits types vars a
-      exits_fit law fits e there outcome.Running runs = tt
-      exits_fit law fits e there (outcome.Fail why line) runs = tt
-      exits_fit law fits e there (outcome.Exit t) runs =
-          let (read, well, holds) = met e there in
+      pub exits_fit : (e : ProcEntry) → slice_get program.procs number ≡ Some e → (a : whole.Answer) → ((t : StoreMap) → a ≡ outcome.Exit t →
+          IsSomeAnd (slice_get program.procs number) (λ e. Fits program.types e.vars t)) → ExitFits types vars a
+      exits_fit e there outcome.Running fits = tt
+      exits_fit e there (outcome.Fail why line) fits = tt
+      exits_fit e there (outcome.Exit t) fits =
           given_types e there (λ ts vs. Fits ts vs t)
-          (exit_fits program e law fits number s steps t there well.fits (IsFresh-well_formed program.types e.vars s well).1 runs)
+          (subst (λ (o : Option ProcEntry). IsSomeAnd o (λ e. Fits program.types e.vars t)) there (fits t refl))
 
     pub says_unread : {E : Type 0} (fault : StoreFault) → b ≡ begun.Refused fault → (n : ℕ) → n ≡ fault.line → (r : Result Run E) →
         IfOk r (Says (answer.StoreRefused (n + 1) fault.kind) (store_refused_line (n + 1) fault.kind)) → IfOk r (SaysOfText program number steps text)

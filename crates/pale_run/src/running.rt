@@ -12,7 +12,6 @@ ghost use Rattle.pale_run.specs.Running.{NamesRun, SaysOf, IsRunOf};
 use crate::answer::{Answer, Run};
 use crate::lines::{store_refused, told};
 use crate::naming::{NamedRun, named_run};
-use claim_laws::claims_with_actuals_put_in_fit;
 use hoare_split::{caller_at, entry_start};
 use pale_parts::{cut_text, split_line};
 use pale_starts::{Begun, begin};
@@ -22,7 +21,6 @@ use std::alloc::{AllocError, Global};
 use store_text::StoreKind;
 use whole_exec::run_procedure;
 use whole_program::{WholeProgram, read_program};
-use whole_run::{handed_stores_meet_the_entry, returned_stores_are_well_formed};
 
 /// What comes of a store text at the entry of the procedure with this number, which is there.
 ///
@@ -57,9 +55,6 @@ fn run_text(alloc: Global, program: &Typed, named: NamedRun, text: &[u8]) -> Res
     ensures { IfOk result (λ r. (first : List ℕ) → (e : ProcEntry) → NamesRun program.now first named.number named.steps e →
         SaysOf program.now (first ∷ lines_of text.now) r.answer r.text) }
 {
-    claims_with_actuals_put_in_fit();
-    handed_stores_meet_the_entry();
-    returned_stores_are_well_formed();
     let types = program.types();
     let Some(vars) = program.vars(named.number) else {
         unreachable!()

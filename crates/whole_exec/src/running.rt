@@ -1,7 +1,7 @@
 //! Whole runs.
 
 ghost use Rattle.std.specs.Prelude.{◌≡◌, IfOk, [], List, IsSomeAnd, slice_get};
-ghost use Rattle.store_core.specs.Stores.{Fits};
+ghost use Rattle.store_core.specs.Stores.{StoreMap, Fits};
 ghost use Rattle.pale_typed.specs.Fitting.{ProgramFits};
 ghost use Rattle.pale_typed.specs.TypedPrograms.{TypedProgram};
 ghost use Rattle.store_trace.specs.declared.event.Event.{Event};
@@ -133,8 +133,8 @@ fn go(
 /// them, it fails, or the procedure exits. The program fits; the store fits the procedure's variables and is fresh, and its next
 /// number and the count of the steps are together below 4,294,967,295, so that each step finds a number for a new cell.
 ///
-/// But for want of memory there is an answer, whatever the program does, and a run has one answer alone. (Møller and Schwartzbach,
-/// PLDI 2001: procedures, loops and calls.)
+/// But for want of memory there is an answer, whatever the program does, and a run has one answer alone. The store of an exit fits the
+/// procedure's variables. (Møller and Schwartzbach, PLDI 2001: procedures, loops and calls.)
 pub fn run_procedure(
     alloc: Global,
     program: &Typed,
@@ -144,7 +144,9 @@ pub fn run_procedure(
 ) -> Result<Answer, AllocError>
     requires program { ProgramFits program.now }
     requires start { CanStart program.now number store steps }
-    ensures { IfOk result (λ answer. WholeRun program.now number store steps (answer_of answer)) }
+    ensures ran { IfOk result (λ answer. WholeRun program.now number store steps (answer_of answer)) }
+    ensures fits { IfOk result (λ answer. (t : StoreMap) → answer ≡ Answer.Exit t →
+        IsSomeAnd (slice_get program.now.procs number) (λ e. Fits program.now.types e.vars t)) }
 {
     traces_are_whole_runs();
     let stood = go(

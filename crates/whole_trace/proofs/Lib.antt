@@ -1,2 +1,3 @@
+pub mod Exiting
 pub mod OneTrace
 pub mod TraceLaws

@@ -1,5 +1,4 @@
 use Rattle.std.proofs.Common.{slice_get}
-use Rattle.whole_run.proofs.AnswerLaws.{Laws}
 use Rattle.pale_run.proofs.EntryLemmas.{the_one}
 use Rattle.pale_run.proofs.TellingLemmas.{says_unread, says_ill, says_false, says_met, can_run, exits_fit}
 use Rattle.pale_run.proofs.running.run_text.Goals as goal
@@ -16,14 +15,9 @@ pub told-requires-in-Meets : goal.told-requires-in-Meets
 told-requires-in-Meets c =
     let program = c.args.program.now in
     let (e, there) = the_one (slice_get program.procs c.args.named.number) c.requires.there in
-    let law : Laws = record {
-      puts = c.claims_with_actuals_put_in_fit.ensures;
-      handed = c.handed_stores_meet_the_entry.ensures;
-      formed = c.returned_stores_are_well_formed.ensures;
-    } in
     exits_fit program c.args.named.number c.args.named.steps c.types-types.result.now c.in-Some.vars.now c.types-types.ensures c.in-Some.ensures
     c.args.text.now c.in_ok-fault.field-0 c.in_ok-fault.ensures c.in-Meets.store c.in-Meets.is
-    law c.requires.program e there c.in_ok-answer-in-Meets.answer c.in_ok-answer-in-Meets.ensures
+    e there c.in_ok-answer-in-Meets.answer c.in_ok-answer-in-Meets.ensures.fits
 
 pub returns-in-Refused : goal.returns-in-Refused
 returns-in-Refused c =
@@ -51,4 +45,4 @@ returns-in_ok-answer-in-Meets c =
     let program = c.args.program.now in
     says_met program c.args.named.number c.args.named.steps c.types-types.result.now c.in-Some.vars.now c.types-types.ensures c.in-Some.ensures
     c.args.text.now c.in_ok-fault.field-0 c.in_ok-fault.ensures c.in-Meets.store c.in-Meets.is
-    c.in_ok-answer-in-Meets.answer c.in_ok-answer-in-Meets.ensures c.told-in-Meets.result c.told-in-Meets.ensures
+    c.in_ok-answer-in-Meets.answer c.in_ok-answer-in-Meets.ensures.ran c.told-in-Meets.result c.told-in-Meets.ensures
