@@ -1,8 +1,7 @@
 -- What is said of a store text in a triple.
-use Rattle.std.proofs.Common.{◌≡◌, ◌+◌, ◌-◌, ◌<◌, ◌≤◌, ◌==◌, ℕ, suc, true, List, [], ◌∷◌, length, Option, Some, None, Ok, Err, option_map, sym, ap, ◌∙◌, subst}
-use Rattle.std.proofs.Common.{Result, IfSome, IfNone, arith, refl}
+use Rattle.std.proofs.Common.{◌≡◌, ◌+◌, ◌-◌, ◌<◌, ◌≤◌, ◌==◌, ℕ, suc, true, List, ◌∷◌, length, Option, Some, None, Ok, Err, option_map, sym, ap, ◌∙◌, subst}
+use Rattle.std.proofs.Common.{Result, IfSome, IfNone, refl}
 use Rattle.std.specs.Prelude.{slice_get, IfOk}
-use Rattle.std.proofs.lemmas.Bool.Decides.{nat_tests}
 use Rattle.std.specs.Borrow.{Bor}
 use Rattle.store_core.specs.Tables.{TypeEntry, VarEntry}
 use Rattle.store_core.specs.Stores.{StoreMap}
@@ -27,6 +26,7 @@ use Rattle.pale_starts.specs.declared.begun.Begun.TheVariants as begun
 use Rattle.pale_starts.specs.Begins.{Begins}
 use Rattle.pale_starts.proofs.BegunLemmas.{is_refused, is_ill, is_false, is_met}
 use Rattle.pale_starts.proofs.NumberLemmas.{read_small}
+use Rattle.pale_starts.proofs.PartLemmas.{no_lines, one_more}
 use Rattle.routing_walks.specs.declared.fault.WfFault.{WfFault}
 use Rattle.routing_walks.specs.WellFormed.{IsWellFormed}
 use Rattle.store_exec.specs.Failing.{StartHolds, Meets}
@@ -135,13 +135,6 @@ module _ (program : TypedProgram) (t : Triple) (types : List TypeEntry) (vars : 
         (sym same) (says_fault triples first (lines_of text) e names fault (is_refused types vars t.start (lines_of text) b begun_so fault is)))
 
 -- ---- the part after `---`
-
-no_lines : (part : List ℕ) → (length part == 0) ≡ true → lines_of part ≡ []
-no_lines [] none = refl
-no_lines (b ∷ bs) none = absurd (grind (arith, nat_tests))
-
-one_more : (n : ℕ) → 0 < n → suc (n - 1) ≡ n
-one_more n some = omega arith
 
 module _ (program : TypedProgram) (triples : List Triple) (part : List ℕ) where
   pub empty_part : (length part == 0) ≡ true → IsRefusedAt program triples (lines_of part) 1 Missing

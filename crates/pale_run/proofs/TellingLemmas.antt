@@ -1,9 +1,8 @@
 -- What is said of a store text in a procedure's run.
-use Rattle.std.proofs.Common.{◌≡◌, ◌∙◌, ◌+◌, ◌≤◌, ◌==◌, ℕ, true, List, [], ◌∷◌, length, Option, Some, None, Ok, Err, option_map, refl, sym, ap, subst, arith}
+use Rattle.std.proofs.Common.{◌≡◌, ◌∙◌, ◌+◌, ◌≤◌, ◌==◌, ℕ, true, List, ◌∷◌, length, Option, Some, None, Ok, Err, option_map, refl, sym, ap, subst}
 use Rattle.std.proofs.Common.{Result, IfSome, IfNone}
 use Rattle.std.specs.Prelude.{slice_get, IfOk, IsSomeAnd}
 use Rattle.std.specs.Borrow.{Bor}
-use Rattle.std.proofs.lemmas.Bool.Decides.{nat_tests}
 use Rattle.store_core.specs.Tables.{TypeEntry, VarEntry}
 use Rattle.store_core.specs.Stores.{StoreMap, Fits}
 use Rattle.routing_walks.specs.declared.fault.WfFault.{WfFault}
@@ -31,6 +30,7 @@ use Rattle.pale_starts.specs.Begins.{Begins}
 use Rattle.pale_starts.specs.Lines.{store_refused_line}
 use Rattle.pale_starts.proofs.BegunLemmas.{is_refused, is_ill, is_false, is_met}
 use Rattle.pale_starts.proofs.NumberLemmas.{read_small}
+use Rattle.pale_starts.proofs.PartLemmas.{no_lines}
 use Rattle.pale_run.specs.declared.answer.Answer.{Answer}
 use Rattle.pale_run.specs.declared.answer.Answer.TheVariants as answer
 use Rattle.pale_run.specs.declared.answer.Run.{Run}
@@ -143,10 +143,6 @@ module _ (program : TypedProgram) (number steps : ℕ) (types : List TypeEntry) 
         (is_refused program.types e.vars (entry_start e.vars e.proc) (lines_of text) b (begun_so e names.entry) fault is))))
 
 -- ---- the part after `---`
-
-no_lines : (part : List ℕ) → (length part == 0) ≡ true → lines_of part ≡ []
-no_lines [] none = refl
-no_lines (b ∷ bs) none = absurd (grind (arith, nat_tests))
 
 module _ (program : TypedProgram) (part : List ℕ) where
   pub empty_part : (length part == 0) ≡ true → IsRefusedAt program (lines_of part) 1 Missing

@@ -1,3 +1,4 @@
 pub mod NumberLemmas
 pub mod StopLemmas
 pub mod BegunLemmas
+pub mod PartLemmas

@@ -1,9 +1,8 @@
 -- What is said of a text, and of the lines behind `---`.
-use Rattle.std.proofs.Common.{◌≡◌, ◌-◌, ◌<◌, ◌==◌, ℕ, suc, true, List, [], ◌∷◌, length, Option, Some, None, Ok, Err, Result, IfSome, IfNone}
-use Rattle.std.proofs.Common.{refl, sym, subst, arith}
+use Rattle.std.proofs.Common.{◌≡◌, ◌-◌, ◌<◌, ◌==◌, ℕ, suc, true, List, ◌∷◌, length, Option, Some, None, Ok, Err, Result, IfSome, IfNone}
+use Rattle.std.proofs.Common.{sym, subst}
 use Rattle.std.specs.Prelude.{slice_get, IfOk}
 use Rattle.std.specs.Borrow.{Bor}
-use Rattle.std.proofs.lemmas.Bool.Decides.{nat_tests}
 use Rattle.store_exec.specs.declared.triple.Triple.{Triple}
 use Rattle.store_text.specs.declared.fault.StoreKind.{StoreKind}
 use Rattle.store_text.specs.declared.fault.StoreKind.TheVariants.{Missing, UnknownName}
@@ -14,6 +13,7 @@ use Rattle.hoare_split.specs.Fitting.{FitsProgram}
 use Rattle.whole_program.specs.ProgramTexts.{IsReadAs}
 use Rattle.pale_parts.specs.Parts.{IsCutAs, HasNoCut, IsTripleLine}
 use Rattle.pale_starts.specs.Lines.{store_refused_line}
+use Rattle.pale_starts.proofs.PartLemmas.{no_lines, one_more}
 use Rattle.pale_replay.specs.Replaying.{NamesTriple}
 use Rattle.pale_run.specs.Running.{NamesRun, NamesNoRun}
 use Rattle.pale_trace.specs.declared.ending.Ending.{Ending}
@@ -38,9 +38,6 @@ says_refused program triples lines n kind wrong (Ok r) says =
     by_words (SaysOf program triples lines) (ending.StoreRefused n kind) (store_refused_line n kind) r says (refused lines n kind wrong)
 
 -- ---- the first line
-
-one_more : (n : ℕ) → 0 < n → suc (n - 1) ≡ n
-one_more n some = omega arith
 
 module _ (program : TypedProgram) (triples : List Triple) (text : List ℕ) where
   -- what is said behind a line of which this is so, whatever that is
@@ -82,10 +79,6 @@ module _ (program : TypedProgram) (triples : List Triple) (text : List ℕ) wher
   unnamed line kind other none = no_request line (lines_of text) kind (no_run kind other none)
 
 -- ---- the part after `---`
-
-no_lines : (part : List ℕ) → (length part == 0) ≡ true → lines_of part ≡ []
-no_lines [] none = refl
-no_lines (b ∷ bs) none = absurd (grind (arith, nat_tests))
 
 module _ (program : TypedProgram) (triples : List Triple) (part : List ℕ) where
   pub empty_part : (length part == 0) ≡ true → IsRefusedAt program triples (lines_of part) 1 Missing
