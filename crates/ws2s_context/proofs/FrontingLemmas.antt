@@ -8,7 +8,7 @@ use Rattle.ws2s_core.specs.Satisfaction.{Same, WSat}
 use Rattle.ws2s_core.proofs.SatisfactionLemmas.{WSat-And}
 use Rattle.ws2s_theory.specs.Contexts.{SameUnder}
 use Rattle.ws2s_lean.specs.Conjunctions.{IsConjunction}
-use Rattle.ws2s_context.specs.Conjuncts.{IsThere, formula_of}
+use Rattle.ws2s_facts.specs.Conjuncts.{IsThere, formula_of}
 use Rattle.ws2s_context.specs.Fronting.{IsFronting}
 use Rattle.ws2s_context.proofs.GoingLemmas.{SameUnder-beside}
 

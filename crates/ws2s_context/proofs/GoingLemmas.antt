@@ -14,9 +14,9 @@ use Rattle.ws2s_core.specs.Satisfaction.{Same, WSat}
 use Rattle.ws2s_context.specs.declared.task.Place.{Place}
 use Rattle.ws2s_context.specs.declared.task.Task.{Task}
 use Rattle.ws2s_context.specs.declared.rewritings.Rewriting.{Rewriting}
-use Rattle.ws2s_context.specs.Conjuncts.{IsThere, IsContext, formula_of, context_at, Implies}
+use Rattle.ws2s_facts.specs.Conjuncts.{IsThere, IsContext, formula_of, context_at, Implies}
 use Rattle.ws2s_context.specs.Going.{IsPlace, whole, around, IsSame, IsRewriting, IsTurning, IsConjoining, IsNegating, IsQuantifying, IsSound, IsGoing}
-use Rattle.ws2s_context.proofs.ConjunctsLemmas.{at-extends, there-extends, context-extends, IsContext-extends, Extends-trans}
+use Rattle.ws2s_facts.proofs.ConjunctsLemmas.{at-extends, there-extends, context-extends, IsContext-extends, Extends-trans}
 
 -- what holds in the inner context holds in the one that implies it
 pub SameUnder-implied : (context inner : List Formula) (f g : Formula) → Implies context inner → SameUnder inner f g → SameUnder context f g

@@ -16,7 +16,7 @@ use Rattle.ws2s_core.proofs.SatisfactionLemmas.{WSat-And, WSat-Ex2}
 use Rattle.ws2s_theory.specs.Contexts.{conjoined}
 use Rattle.ws2s_theory.proofs.ContextsLemmas.{WSat-quantified, Same-outside_right}
 use Rattle.ws2s_core.proofs.NodesLemmas.{formula_at-is, at-formula_at}
-use Rattle.ws2s_context.specs.Conjuncts.{IsThere, formula_of, formulas_at}
+use Rattle.ws2s_facts.specs.Conjuncts.{IsThere, formula_of, formulas_at}
 use Rattle.ws2s_context.specs.Opening.{IsModel, IsOpened, AreOf}
 
 module _ (tracks : List ℕ) where

@@ -9,7 +9,7 @@ use Rattle.ws2s_theory.specs.Contexts.{SameUnder}
 use Rattle.ws2s_context.specs.declared.task.Place.{Place}
 use Rattle.ws2s_context.specs.declared.task.Task.{Task}
 use Rattle.ws2s_context.specs.declared.rewritings.Rewriting.{Rewriting}
-use Rattle.ws2s_context.specs.Conjuncts.{IsThere, IsContext, formula_of, context_at, Implies}
+use Rattle.ws2s_facts.specs.Conjuncts.{IsThere, IsContext, formula_of, context_at, Implies}
 
 -- the formula and the context are there
 pub record IsPlace (formulas : List Formula) (place : Place) : Type 0 where

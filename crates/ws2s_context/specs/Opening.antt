@@ -8,7 +8,7 @@ use Rattle.ws2s_core.specs.declared.formula.Formula.{Formula}
 use Rattle.ws2s_core.specs.Satisfaction.{WSat}
 use Rattle.ws2s_theory.specs.Contexts.{conjoined}
 use Rattle.ws2s_context.specs.declared.opening.Spine.{Spine}
-use Rattle.ws2s_context.specs.Conjuncts.{IsThere, formula_of, formulas_at}
+use Rattle.ws2s_facts.specs.Conjuncts.{IsThere, formula_of, formulas_at}
 
 -- an assignment that satisfies the formula and has that weight
 pub record IsModel (tracks : List ℕ) (f : Formula) (w : ℕ) : Type 0 where

@@ -6,16 +6,16 @@
 //! tell apart trees of none. So these and small conjuncts come into contexts, as they were rewritten, and are conjoined at each
 //! quantifier and negation.
 
-ghost use Rattle.ws2s_context.specs.Conjuncts.{IsContext, IsThere};
+ghost use Rattle.ws2s_facts.specs.Conjuncts.{IsContext, IsThere};
 
 use crate::blocks::Blocks;
 use crate::context::{Context, members_of, note};
-use crate::facts::Facts;
+use crate::hints::{has_stranger, is_relevant, of_list, size};
 use crate::spine::{conjuncts_of, has_step, is_atom, is_position, single_of};
-use crate::tracks::of_list;
 use std::alloc::{AllocError, Global};
 use std::collections::{HashMap, HashSet};
 use ws2s_core::{FormulaId, Interner, Node, Track, TrackList};
+use ws2s_facts::Facts;
 
 /// How many nodes a conjunct has at most that comes into contexts wherever it stands.
 const MANY_NODES: u32 = 1_000;
@@ -69,7 +69,7 @@ impl Choice {
             root: id,
             blocks: Blocks::new(alloc),
         };
-        choice.is_whole = facts.has_stranger(id, &choice.weighed);
+        choice.is_whole = has_stranger(facts, id, &choice.weighed);
         if choice.is_whole {
             choice.follow(alloc, interner, id)?;
         }
@@ -146,7 +146,7 @@ impl Choice {
     ) -> Result<(), AllocError>
         requires { IsThere interner.now to }
     {
-        let is_large = facts.size(left) > MANY_NODES && !self.spine.contains(&left);
+        let is_large = size(facts, left) > MANY_NODES && !self.spine.contains(&left);
         if !self.is_whole || is_large {
             return Ok(());
         }
@@ -195,13 +195,13 @@ impl Choice {
         let Some(t) = single_of(interner, conjunct) else {
             return false;
         };
-        facts.is_relevant(conjunct, id)
-            && (self.is_whole || self.blocks.has(t) || facts.is_relevant(conjunct, self.root))
+        is_relevant(facts, conjunct, id)
+            && (self.is_whole || self.blocks.has(t) || is_relevant(facts, conjunct, self.root))
     }
 
     /// Whether all tracks of the conjunct are weighed, as far as known.
     pub(crate) fn is_of_weighed(&self, facts: &Facts, conjunct: FormulaId) -> bool {
-        !facts.has_stranger(conjunct, &self.weighed)
+        !has_stranger(facts, conjunct, &self.weighed)
     }
 
     /// What is looked at next stands under a negation.
@@ -237,14 +237,14 @@ impl Choice {
         id: FormulaId,
     ) -> Result<bool, AllocError> {
         if self.is_whole {
-            return Ok(facts.size(id) > FEW_QUANTIFIED);
+            return Ok(size(facts, id) > FEW_QUANTIFIED);
         }
         has_step(alloc, interner, id)
     }
 
     /// Whether all of a context is conjoined beside a negation of the formula.
     pub(crate) fn wants_all(&self, facts: &Facts, id: FormulaId) -> bool {
-        self.is_whole && facts.size(id) > FEW_NEGATED
+        self.is_whole && size(facts, id) > FEW_NEGATED
     }
 
     /// The conjuncts of a context of which is noted where they are conjoined: none where all are conjoined everywhere.

@@ -4,17 +4,18 @@ ghost use Rattle.std.specs.Prelude.{◌≡◌, ℕ, List, [], ◌∷◌, All, So
 ghost use Rattle.ws2s_core.specs.declared.formula.Formula.{Formula};
 ghost use Rattle.ws2s_core.specs.Nodes.{Extends};
 ghost use Rattle.ws2s_core.specs.Tracks.{IsFree};
-ghost use Rattle.ws2s_context.specs.Conjuncts.{IsThere, IsContext, IsConjunct, IsUnbound, IsAmong, formula_of, context_at};
-ghost use Rattle.ws2s_context.specs.Conjuncts.{Implies, after, joined, formulas_at};
-ghost use Rattle.ws2s_context.specs.Facts.{AreFacts};
+ghost use Rattle.ws2s_facts.specs.Conjuncts.{IsThere, IsContext, IsConjunct, IsUnbound, IsAmong, formula_of, context_at};
+ghost use Rattle.ws2s_facts.specs.Conjuncts.{Implies, after, joined, formulas_at};
+ghost use Rattle.ws2s_facts.specs.Facts.{AreFacts};
 
 use crate::choice::Choice;
-use crate::facts::{Facts, make};
+use crate::hints::is_relevant;
 use crate::spine::conjuncts_of;
 use crate::uses::Uses;
 use std::alloc::{AllocError, Global};
 use std::collections::HashSet;
 use ws2s_core::{FormulaId, Interner, Node, Track};
+use ws2s_facts::{Facts, make};
 
 /// How many conjuncts a context has at most.
 const MANY_CONJUNCTS: usize = 512;
@@ -102,7 +103,7 @@ fn choose(
 {
     for conjunct in conjuncts {
         if chosen.len() < MANY_CONJUNCTS
-            && facts.is_relevant(*conjunct, id)
+            && is_relevant(facts, *conjunct, id)
             && !known.contains(conjunct)
         {
             note(known, *conjunct)?;

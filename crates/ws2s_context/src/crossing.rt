@@ -6,18 +6,19 @@
 ghost use Rattle.std.specs.Prelude.{List, IfOk, OnOk};
 ghost use Rattle.ws2s_core.specs.declared.formula.Formula.{Formula};
 ghost use Rattle.ws2s_core.specs.Nodes.{Extends};
-ghost use Rattle.ws2s_context.specs.Conjuncts.{IsContext, IsAmong, Implies, context_at};
-ghost use Rattle.ws2s_context.specs.Facts.{AreFacts};
+ghost use Rattle.ws2s_facts.specs.Conjuncts.{IsContext, IsAmong, Implies, context_at};
+ghost use Rattle.ws2s_facts.specs.Facts.{AreFacts};
 ghost use Rattle.ws2s_context.specs.Going.{IsPlace, IsSame, around};
 
 use crate::choice::Choice;
 use crate::context::{Context, conjunction_of, members_of};
-use crate::facts::Facts;
 use crate::fronting::put_context_first;
+use crate::hints::is_relevant;
 use crate::spine::conjuncts_of;
 use crate::task::Place;
 use std::alloc::{AllocError, Global};
 use ws2s_core::{FormulaId, Interner};
+use ws2s_facts::Facts;
 
 /// How many conjuncts a chain has at least for which what is known across them comes in front: with fewer the sets of types are few.
 const MANY_PARTS: usize = 10;
@@ -102,6 +103,6 @@ fn is_crossing(
     id: FormulaId,
 ) -> bool {
     choice.is_of_weighed(facts, conjunct)
-        && facts.is_relevant(conjunct, id)
-        && !parts.iter().any(|part| facts.is_relevant(conjunct, *part))
+        && is_relevant(facts, conjunct, id)
+        && !parts.iter().any(|part| is_relevant(facts, conjunct, *part))
 }

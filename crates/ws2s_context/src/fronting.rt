@@ -7,14 +7,14 @@ ghost use Rattle.ws2s_core.specs.Nodes.{Extends};
 ghost use Rattle.ws2s_core.specs.Satisfaction.{Same};
 ghost use Rattle.ws2s_lean.specs.Conjunctions.{IsConjunction};
 ghost use Rattle.ws2s_theory.specs.Contexts.{SameUnder};
-ghost use Rattle.ws2s_context.specs.Conjuncts.{IsThere, IsContext, formula_of, context_at};
-ghost use Rattle.ws2s_context.specs.Facts.{AreFacts};
+ghost use Rattle.ws2s_facts.specs.Conjuncts.{IsThere, IsContext, formula_of, context_at};
+ghost use Rattle.ws2s_facts.specs.Facts.{AreFacts};
 ghost use Rattle.ws2s_context.specs.Fronting.{links};
 
 use crate::context::Context;
-use crate::facts::{Facts, make};
 use std::alloc::{AllocError, Global};
 use ws2s_core::{FormulaId, Interner, Node};
+use ws2s_facts::{Facts, make};
 
 /// How many conjuncts of a chain are taken apart at most.
 const MANY_STEPS: u32 = 100_000;

@@ -3,11 +3,10 @@
 ghost use Rattle.std.specs.Prelude.{◌≡◌, ◌<◌, ◌∷◌, length, List, OnOk};
 ghost use Rattle.ws2s_core.specs.declared.formula.Formula.{Formula};
 ghost use Rattle.ws2s_core.specs.Nodes.{Extends};
-ghost use Rattle.ws2s_context.specs.Facts.{AreFacts};
+ghost use Rattle.ws2s_facts.specs.Facts.{AreFacts};
 ghost use Rattle.ws2s_context.specs.Going.{IsPlace, IsSound, IsGoing};
 
 use crate::choice::Choice;
-use crate::facts::Facts;
 use crate::making::{make_conjunction, make_negation, make_quantified};
 use crate::rewritings::Rewritings;
 use crate::task::Task;
@@ -17,6 +16,7 @@ use plain_data::Stack;
 use std::alloc::{AllocError, Global};
 use std::collections::HashSet;
 use ws2s_core::{FormulaId, Interner};
+use ws2s_facts::Facts;
 
 /// What is still to be done, the next task on top, and what was rewritten.
 #[derive(Drop)]

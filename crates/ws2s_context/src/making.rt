@@ -4,19 +4,19 @@ ghost use Rattle.std.specs.Prelude.{◌≡◌, ◌<◌, ◌∷◌, [], length, O
 ghost use Rattle.ws2s_core.specs.declared.formula.Formula.TheVariants.{Not};
 ghost use Rattle.ws2s_core.specs.Nodes.{Extends};
 ghost use Rattle.ws2s_theory.specs.Contexts.{SameUnder};
-ghost use Rattle.ws2s_context.specs.Conjuncts.{IsThere, IsContext, Implies, formula_of, context_at};
-ghost use Rattle.ws2s_context.specs.Facts.{AreFacts};
+ghost use Rattle.ws2s_facts.specs.Conjuncts.{IsThere, IsContext, Implies, formula_of, context_at};
+ghost use Rattle.ws2s_facts.specs.Facts.{AreFacts};
 ghost use Rattle.ws2s_context.specs.Going.{IsGoing, IsConjoining, IsNegating, IsQuantifying};
 
 use crate::context::{Context, note, used};
 use crate::crossing::crossed;
-use crate::facts::{Facts, make};
 use crate::machine::Machine;
 use crate::spine::is_conjunction;
 use crate::task::Place;
 use std::alloc::{AllocError, Global};
 use std::collections::HashSet;
 use ws2s_core::{FormulaId, Interner, Node, Track};
+use ws2s_facts::{Facts, make};
 
 /// The halves of a conjunction are put together again.
 pub(crate) fn make_conjunction(

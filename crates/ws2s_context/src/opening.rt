@@ -8,14 +8,14 @@ ghost use Rattle.std.specs.List.{AllByRecursion};
 ghost use Rattle.ws2s_core.specs.declared.formula.Formula.{Formula};
 ghost use Rattle.ws2s_core.specs.Nodes.{Extends, IsOnceEach};
 ghost use Rattle.ws2s_core.specs.Tracks.{IsFree};
-ghost use Rattle.ws2s_context.specs.Conjuncts.{IsThere, formula_of};
-ghost use Rattle.ws2s_context.specs.Facts.{AreFacts};
+ghost use Rattle.ws2s_facts.specs.Conjuncts.{IsThere, formula_of};
+ghost use Rattle.ws2s_facts.specs.Facts.{AreFacts};
 ghost use Rattle.ws2s_context.specs.Opening.{AreOf, IsOpened, IsSpine, spined};
 
-use crate::facts::{Facts, make};
-use crate::tracks::of_list;
+use crate::hints::{has_stranger, of_list};
 use std::alloc::{AllocError, Global};
 use ws2s_core::{FormulaId, Interner, Node, Track, TrackList};
+use ws2s_facts::{Facts, make};
 
 /// How far the outer spine is followed.
 const MANY_STEPS: u32 = 100_000;
@@ -65,7 +65,7 @@ fn opened_number(
     ensures kept { Extends interner.old interner.new }
 {
     let mut facts = Facts::of_parts(alloc, interner, id)?;
-    let is_wanted = facts.has_stranger(id, &of_list(alloc, weigh)?);
+    let is_wanted = has_stranger(facts, id, &of_list(alloc, weigh)?);
     let spine = spine_of(alloc, interner, &facts, id, weigh, is_wanted)?;
     let made = joined_again(alloc, interner, &mut facts, spine)?;
     Ok(made)

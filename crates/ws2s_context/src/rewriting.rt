@@ -4,12 +4,11 @@ ghost use Rattle.std.specs.Prelude.{◌≡◌, ◌<◌, IfOk, Some, slice_get};
 ghost use Rattle.ws2s_core.specs.declared.formula.Formula.{Formula};
 ghost use Rattle.ws2s_core.specs.Nodes.{Extends, IsOnceEach};
 ghost use Rattle.ws2s_core.specs.Satisfaction.{Same};
-ghost use Rattle.ws2s_context.specs.Conjuncts.{IsThere, formula_of};
-ghost use Rattle.ws2s_context.specs.Facts.{AreFacts};
+ghost use Rattle.ws2s_facts.specs.Conjuncts.{IsThere, formula_of};
+ghost use Rattle.ws2s_facts.specs.Facts.{AreFacts};
 ghost use Rattle.ws2s_context.specs.Going.{IsPlace, IsGoing};
 
 use crate::choice::Choice;
-use crate::facts::Facts;
 use crate::fronting::left_first;
 use crate::machine::{Machine, run};
 use crate::rewritings::Rewritings;
@@ -19,6 +18,7 @@ use plain_data::Stack;
 use std::alloc::{AllocError, Global};
 use std::collections::HashSet;
 use ws2s_core::{FormulaId, Interner, TrackList};
+use ws2s_facts::Facts;
 use ws2s_lean::lean_left;
 
 /// The number of a formula with the same satisfying assignments, in which what holds around a part is conjoined inside it.

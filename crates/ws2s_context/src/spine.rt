@@ -2,7 +2,7 @@
 
 ghost use Rattle.std.specs.Prelude.{All, List, [], ◌∷◌, ◌<◌, IfOk, IfSome, OnOk};
 ghost use Rattle.ws2s_core.specs.declared.formula.Formula.{Formula};
-ghost use Rattle.ws2s_context.specs.Conjuncts.{IsThere, IsConjunct, AreConjuncts, formula_of};
+ghost use Rattle.ws2s_facts.specs.Conjuncts.{IsThere, IsConjunct, AreConjuncts, formula_of};
 
 use std::alloc::{AllocError, Global};
 use ws2s_core::{FormulaId, Interner, Node, Track};

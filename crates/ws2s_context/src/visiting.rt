@@ -3,17 +3,17 @@
 ghost use Rattle.std.specs.Prelude.{◌≡◌, ◌<◌, length, IfOk, OnOk};
 ghost use Rattle.ws2s_core.specs.declared.formula.Formula.TheVariants.{And, Not, Ex2};
 ghost use Rattle.ws2s_core.specs.Nodes.{Extends, HasPartsBelow, formula_of_node};
-ghost use Rattle.ws2s_context.specs.Conjuncts.{IsThere, formula_of};
-ghost use Rattle.ws2s_context.specs.Facts.{AreFacts};
+ghost use Rattle.ws2s_facts.specs.Conjuncts.{IsThere, formula_of};
+ghost use Rattle.ws2s_facts.specs.Facts.{AreFacts};
 ghost use Rattle.ws2s_context.specs.Going.{IsPlace, IsSame, IsTurning, IsConjoining, IsGoing, whole};
 
 use crate::choice::Choice;
 use crate::context::{Context, beside, inside, narrowed, projected};
-use crate::facts::Facts;
 use crate::machine::Machine;
 use crate::task::{Place, Task};
 use std::alloc::{AllocError, Global};
 use ws2s_core::{FormulaId, Interner, Node, Track};
+use ws2s_facts::Facts;
 
 /// The formula is taken apart, unless it was rewritten in its context before.
 pub(crate) fn visit(

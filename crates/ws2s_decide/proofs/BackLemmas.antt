@@ -28,7 +28,7 @@ use Rattle.ws2s_core.specs.LabelTrees.{assignment_of}
 use Rattle.ws2s_core.specs.Satisfaction.{WSat}
 use Rattle.ws2s_core.proofs.LabelTreesLemmas.{Covers-tree}
 use Rattle.ws2s_theory.specs.Contexts.{SatisfiesAll}
-use Rattle.ws2s_context.specs.Conjuncts.{formula_of}
+use Rattle.ws2s_facts.specs.Conjuncts.{formula_of}
 use Rattle.ws2s_network.specs.Network.{Agree, DependOn, IsEliminated, AreEliminated, HaveNoModel, HaveBound, tracks_of}
 use Rattle.ws2s_network.proofs.NetworkLemmas.{AreEliminated-last, HaveNoModel-eliminated, HaveBound-eliminated, DependOn-formula, DependOn-left}
 use Rattle.ws2s_network.proofs.NetworkLemmas.{value-found, weight-agree}

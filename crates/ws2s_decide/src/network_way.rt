@@ -4,7 +4,7 @@
 ghost use Rattle.std.specs.Prelude.{◌≡◌, List, [], All, Some, IfOk, IfSome, slice_get};
 ghost use Rattle.gta_theory.specs.Guides.{IsGuide};
 ghost use Rattle.ws2s_core.specs.declared.formula.Formula.{Formula};
-ghost use Rattle.ws2s_context.specs.Conjuncts.{IsThere};
+ghost use Rattle.ws2s_facts.specs.Conjuncts.{IsThere};
 ghost use Rattle.ws2s_plan.specs.Plan.{IsNetworkOf};
 ghost use Rattle.ws2s_decide.specs.Going.{Rests};
 ghost use Rattle.ws2s_decide.specs.Deciding.{IsVerdict, IsLightestModel};

@@ -12,8 +12,8 @@ use crate::verdict::Verdict;
 use bdd_walk::NoMemory;
 use plain_data::Items;
 use std::alloc::{AllocError, Global};
-use ws2s_context::Facts;
 use ws2s_core::{FormulaId, Interner, Track, TrackList};
+use ws2s_facts::Facts;
 use ws2s_plan::{Network, network_of};
 
 /// With fewer variables none is eliminated.

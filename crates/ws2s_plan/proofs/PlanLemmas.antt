@@ -16,8 +16,8 @@ use Rattle.ws2s_core.specs.Satisfaction.{WSat}
 use Rattle.ws2s_core.specs.Tracks.{IsFree}
 use Rattle.ws2s_core.proofs.NodesLemmas.{at-formula_at, formula_at-is}
 use Rattle.ws2s_theory.specs.Contexts.{SatisfiesAll}
-use Rattle.ws2s_context.specs.Conjuncts.{IsThere, formula_of, formulas_at}
-use Rattle.ws2s_context.proofs.ConjunctsLemmas.{All-contains, at-extends, there-extends, all_there-extends, formulas_at-extends}
+use Rattle.ws2s_facts.specs.Conjuncts.{IsThere, formula_of, formulas_at}
+use Rattle.ws2s_facts.proofs.ConjunctsLemmas.{All-contains, at-extends, there-extends, all_there-extends, formulas_at-extends}
 use Rattle.ws2s_lean.specs.Conjunctions.{SatisfiesEach, IsConjunction, IsFolded}
 use Rattle.ws2s_network.specs.Network.{IsEliminated, AreEliminated, AreSame}
 use Rattle.ws2s_network.proofs.NetworkLemmas.{IsEliminated-parts, AreEliminated-more, AreEliminated-same}

@@ -17,8 +17,8 @@ use Rattle.ws2s_core.specs.Nodes.{Extends}
 use Rattle.ws2s_core.specs.Satisfaction.{WSat}
 use Rattle.ws2s_core.proofs.SatisfactionLemmas.{WSat-And}
 use Rattle.ws2s_theory.specs.Contexts.{SatisfiesAll}
-use Rattle.ws2s_context.specs.Conjuncts.{IsThere, formula_of, formulas_at}
-use Rattle.ws2s_context.proofs.ConjunctsLemmas.{All-contains, formulas_at-extends}
+use Rattle.ws2s_facts.specs.Conjuncts.{IsThere, formula_of, formulas_at}
+use Rattle.ws2s_facts.proofs.ConjunctsLemmas.{All-contains, formulas_at-extends}
 use Rattle.ws2s_lean.specs.Conjunctions.{SatisfiesEach, IsConjunction, IsFolded}
 use Rattle.ws2s_plan.specs.declared.conjuncts.Taking.{Taking}
 use Rattle.ws2s_plan.specs.Steps.{AreHalves, IsTaking}

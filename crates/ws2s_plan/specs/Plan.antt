@@ -5,7 +5,7 @@ use Rattle.std.specs.List.{list_any}
 use Rattle.ws2s_core.specs.declared.track.Track.{Track}
 use Rattle.ws2s_core.specs.declared.formula.Formula.{Formula}
 use Rattle.ws2s_core.specs.Tracks.{IsFree}
-use Rattle.ws2s_context.specs.Conjuncts.{IsThere, formula_of}
+use Rattle.ws2s_facts.specs.Conjuncts.{IsThere, formula_of}
 use Rattle.ws2s_context.specs.Opening.{AreOf}
 use Rattle.ws2s_network.specs.Network.{AreEliminated}
 use Rattle.ws2s_plan.specs.declared.network.Elimination.{Elimination}

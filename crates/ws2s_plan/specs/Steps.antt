@@ -8,7 +8,7 @@ use Rattle.ws2s_core.specs.declared.formula.Formula.TheVariants.{And}
 use Rattle.ws2s_core.specs.declared.node.FormulaId.{FormulaId}
 use Rattle.ws2s_core.specs.Satisfaction.{WSat}
 use Rattle.ws2s_core.specs.Tracks.{IsFree}
-use Rattle.ws2s_context.specs.Conjuncts.{IsThere, formula_of, formulas_at}
+use Rattle.ws2s_facts.specs.Conjuncts.{IsThere, formula_of, formulas_at}
 use Rattle.ws2s_context.specs.Opening.{AreOf}
 use Rattle.ws2s_lean.specs.Conjunctions.{SatisfiesEach}
 use Rattle.ws2s_network.specs.Network.{IsEliminated, AreEliminated}

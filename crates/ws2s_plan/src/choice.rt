@@ -6,8 +6,8 @@
 ghost use Rattle.std.specs.Prelude.{◌<◌, IfSome, length};
 
 use std::collections::HashSet;
-use ws2s_context::Facts;
 use ws2s_core::{FormulaId, Track};
+use ws2s_facts::Facts;
 
 /// How many conjuncts may join a track that is eliminated to others without weight.
 const FEW_CONJUNCTS: usize = 1;

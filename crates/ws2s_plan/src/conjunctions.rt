@@ -2,13 +2,13 @@
 
 ghost use Rattle.std.specs.Prelude.{◌≡◌, List, All, IfOk, Some, slice_get};
 ghost use Rattle.ws2s_core.specs.Nodes.{Extends};
-ghost use Rattle.ws2s_context.specs.Conjuncts.{IsThere, formula_of};
-ghost use Rattle.ws2s_context.specs.Facts.{AreFacts};
+ghost use Rattle.ws2s_facts.specs.Conjuncts.{IsThere, formula_of};
+ghost use Rattle.ws2s_facts.specs.Facts.{AreFacts};
 ghost use Rattle.ws2s_lean.specs.Conjunctions.{IsFolded};
 
 use std::alloc::{AllocError, Global};
-use ws2s_context::{Facts, make};
 use ws2s_core::{FormulaId, Interner, Node};
+use ws2s_facts::{Facts, make};
 
 /// The conjunction of the first formula and the others, from the left.
 pub(crate) fn conjunction_of(

@@ -2,7 +2,7 @@
 
 ghost use Rattle.std.specs.Prelude.{◌≡◌, List, [], ◌∷◌, All, IfOk, OnOk, IfSome};
 ghost use Rattle.ws2s_core.specs.declared.formula.Formula.{Formula};
-ghost use Rattle.ws2s_context.specs.Conjuncts.{IsThere, formula_of};
+ghost use Rattle.ws2s_facts.specs.Conjuncts.{IsThere, formula_of};
 ghost use Rattle.ws2s_lean.specs.Conjunctions.{IsConjunction};
 ghost use Rattle.ws2s_plan.specs.Steps.{IsTaking, AreHalves};
 

@@ -4,14 +4,14 @@ ghost use Rattle.std.specs.Prelude.{◌≡◌, List, [], ◌∷◌, All, IfOk, O
 ghost use Rattle.ws2s_core.specs.declared.formula.Formula.{Formula};
 ghost use Rattle.ws2s_core.specs.declared.node.FormulaId.{FormulaId};
 ghost use Rattle.ws2s_core.specs.Nodes.{Extends};
-ghost use Rattle.ws2s_context.specs.Conjuncts.{IsThere};
-ghost use Rattle.ws2s_context.specs.Facts.{AreFacts};
+ghost use Rattle.ws2s_facts.specs.Conjuncts.{IsThere};
+ghost use Rattle.ws2s_facts.specs.Facts.{AreFacts};
 ghost use Rattle.ws2s_plan.specs.Steps.{IsParted, IsEliminatedBy};
 
 use crate::conjunctions::conjunction_of;
 use std::alloc::{AllocError, Global};
-use ws2s_context::{Facts, make};
 use ws2s_core::{FormulaId, Interner, Node, Track};
+use ws2s_facts::{Facts, make};
 
 /// Conjuncts parted by whether they have a track.
 #[derive(Drop)]

@@ -5,8 +5,8 @@ ghost use Rattle.ws2s_core.specs.declared.track.Track.{Track};
 ghost use Rattle.ws2s_core.specs.declared.formula.Formula.{Formula};
 ghost use Rattle.ws2s_core.specs.Nodes.{Extends};
 ghost use Rattle.ws2s_core.specs.Tracks.{IsFree};
-ghost use Rattle.ws2s_context.specs.Conjuncts.{IsThere, formula_of};
-ghost use Rattle.ws2s_context.specs.Facts.{AreFacts};
+ghost use Rattle.ws2s_facts.specs.Conjuncts.{IsThere, formula_of};
+ghost use Rattle.ws2s_facts.specs.Facts.{AreFacts};
 ghost use Rattle.ws2s_plan.specs.Plan.{AreAllTracks, IsNetworkOf};
 ghost use Rattle.ws2s_plan.specs.Steps.{IsPlanning};
 
@@ -18,8 +18,8 @@ use crate::network::{Elimination, Network};
 use plain_data::Items;
 use std::alloc::{AllocError, Global};
 use std::collections::HashSet;
-use ws2s_context::Facts;
 use ws2s_core::{FormulaId, Interner, Track, TrackList};
+use ws2s_facts::Facts;
 
 /// A formula's conjuncts, from which tracks are eliminated.
 #[derive(Drop)]

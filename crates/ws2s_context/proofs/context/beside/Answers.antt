@@ -1,8 +1,8 @@
 use Rattle.std.proofs.Common.{All, List, ◌∷◌, [], sym, subst}
 use Rattle.ws2s_core.specs.declared.formula.Formula.{Formula}
 use Rattle.ws2s_core.specs.declared.node.FormulaId.{FormulaId}
-use Rattle.ws2s_context.specs.Conjuncts.{IsConjunct, Implies, formula_of, context_at}
-use Rattle.ws2s_context.proofs.ConjunctsLemmas.{All-among, IsConjunct-wider, IsConjunct-there, Implies-head, Implies-tail, Implies-joined}
+use Rattle.ws2s_facts.specs.Conjuncts.{IsConjunct, Implies, formula_of, context_at}
+use Rattle.ws2s_facts.proofs.ConjunctsLemmas.{All-among, IsConjunct-wider, IsConjunct-there, Implies-head, Implies-tail, Implies-joined}
 use Rattle.ws2s_context.proofs.context.beside.Goals as goal
 
 pub conjunction_of-requires-clause-there : goal.conjunction_of-requires-clause-there

@@ -1,8 +1,8 @@
 use Rattle.std.proofs.Common.{◌∙◌, ap, sym, subst, Vec}
 use Rattle.std.specs.declared.alloc.Global.{Global}
 use Rattle.ws2s_core.specs.declared.node.FormulaId.{FormulaId}
-use Rattle.ws2s_context.specs.Conjuncts.{IsAmong}
-use Rattle.ws2s_context.proofs.ConjunctsLemmas.{IsAmong-push, Contains-at}
+use Rattle.ws2s_facts.specs.Conjuncts.{IsAmong}
+use Rattle.ws2s_facts.proofs.ConjunctsLemmas.{IsAmong-push, Contains-at}
 use Rattle.ws2s_context.proofs.context.choose.Goals as goal
 use Rattle.ws2s_context.proofs.context.choose.Goals.{then-len-lt-MANY_CONJUNCTS+then-is_relevant+then-not-contains+in_ok-note+in_ok-push}
 use Rattle.ws2s_context.proofs.context.choose.Goals.{else-len-lt-MANY_CONJUNCTS}

@@ -1,4 +1,4 @@
-use Rattle.ws2s_context.specs.Conjuncts.{IsAmong}
+use Rattle.ws2s_facts.specs.Conjuncts.{IsAmong}
 use Rattle.ws2s_context.proofs.context.choose.Given as goal
 
 abbrev pub invariant-loop-conjunct : goal.invariant-loop-conjunct

@@ -1,4 +1,4 @@
-use Rattle.ws2s_context.proofs.ConjunctsLemmas.{chosen-swapped}
+use Rattle.ws2s_facts.proofs.ConjunctsLemmas.{chosen-swapped}
 use Rattle.ws2s_context.proofs.context.chosen_beside.Goals as goal
 
 pub returns-then-is_whole : goal.returns-then-is_whole

@@ -1,4 +1,4 @@
-use Rattle.ws2s_context.proofs.ConjunctsLemmas.{IsAmong-both}
+use Rattle.ws2s_facts.proofs.ConjunctsLemmas.{IsAmong-both}
 use Rattle.ws2s_context.proofs.context.chosen_of_both.Goals as goal
 
 pub returns : goal.returns

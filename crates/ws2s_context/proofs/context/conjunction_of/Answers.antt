@@ -1,8 +1,8 @@
 use Rattle.std.proofs.Common.{All, List, [], ap, sym, subst}
 use Rattle.std.proofs.lemmas.List.Elements.{All-head, All-tail}
 use Rattle.ws2s_core.specs.declared.node.FormulaId.{FormulaId}
-use Rattle.ws2s_context.specs.Conjuncts.{IsThere, joined, formulas_at}
-use Rattle.ws2s_context.proofs.ConjunctsLemmas.{Extends-refl, Extends-trans, there-extends, joined-turn}
+use Rattle.ws2s_facts.specs.Conjuncts.{IsThere, joined, formulas_at}
+use Rattle.ws2s_facts.proofs.ConjunctsLemmas.{Extends-refl, Extends-trans, there-extends, joined-turn}
 use Rattle.ws2s_context.proofs.context.conjunction_of.Goals as goal
 
 pub loop-conjunct-init : goal.loop-conjunct-init

@@ -1,7 +1,7 @@
 use Rattle.std.proofs.Common.{◌≡◌, [], All, length}
 use Rattle.ws2s_core.specs.Nodes.{Extends}
-use Rattle.ws2s_context.specs.Conjuncts.{IsThere, IsContext, context_at, joined, formulas_at}
-use Rattle.ws2s_context.specs.Facts.{AreFacts}
+use Rattle.ws2s_facts.specs.Conjuncts.{IsThere, IsContext, context_at, joined, formulas_at}
+use Rattle.ws2s_facts.specs.Facts.{AreFacts}
 use Rattle.ws2s_context.proofs.context.conjunction_of.Given as goal
 
 abbrev pub invariant-loop-conjunct : goal.invariant-loop-conjunct

@@ -2,8 +2,8 @@ use Rattle.std.proofs.Common.{All, List, sym, subst}
 use Rattle.ws2s_core.specs.declared.formula.Formula.{Formula}
 use Rattle.ws2s_core.specs.declared.node.FormulaId.{FormulaId}
 use Rattle.ws2s_core.specs.Tracks.{IsFree}
-use Rattle.ws2s_context.specs.Conjuncts.{IsUnbound, Implies, context_at}
-use Rattle.ws2s_context.proofs.ConjunctsLemmas.{All-chosen, IsUnbound-conjuncts, IsConjunct-there, Implies-joined, unbound-joined}
+use Rattle.ws2s_facts.specs.Conjuncts.{IsUnbound, Implies, context_at}
+use Rattle.ws2s_facts.proofs.ConjunctsLemmas.{All-chosen, IsUnbound-conjuncts, IsConjunct-there, Implies-joined, unbound-joined}
 use Rattle.ws2s_context.proofs.context.inside.Goals as goal
 
 pub conjunction_of-requires-clause-there : goal.conjunction_of-requires-clause-there

@@ -1,5 +1,5 @@
 use Rattle.std.proofs.Common.{All}
-use Rattle.ws2s_context.specs.Conjuncts.{IsUnbound, context_at}
+use Rattle.ws2s_facts.specs.Conjuncts.{IsUnbound, context_at}
 use Rattle.ws2s_context.proofs.context.lacking.Given as goal
 
 abbrev pub invariant-loop-conjunct : goal.invariant-loop-conjunct

@@ -1,6 +1,6 @@
 use Rattle.std.proofs.Common.{length}
-use Rattle.ws2s_context.proofs.ConjunctsLemmas.{Extends-refl, Extends-trans, IsConjunct-itself, IsConjunct-quantified, made-Ex2, parts-Ex2, there-extends}
-use Rattle.ws2s_context.proofs.ConjunctsLemmas.{there-made}
+use Rattle.ws2s_facts.proofs.ConjunctsLemmas.{Extends-refl, Extends-trans, IsConjunct-itself, IsConjunct-quantified, made-Ex2, parts-Ex2, there-extends}
+use Rattle.ws2s_facts.proofs.ConjunctsLemmas.{there-made}
 use Rattle.ws2s_context.proofs.context.projected.Goals as goal
 
 pub loop-t-init : goal.loop-t-init

@@ -1,7 +1,7 @@
 use Rattle.std.proofs.Common.{[], ◌∷◌}
 use Rattle.ws2s_core.specs.Nodes.{Extends}
-use Rattle.ws2s_context.specs.Conjuncts.{IsConjunct, formula_of}
-use Rattle.ws2s_context.specs.Facts.{AreFacts}
+use Rattle.ws2s_facts.specs.Conjuncts.{IsConjunct, formula_of}
+use Rattle.ws2s_facts.specs.Facts.{AreFacts}
 use Rattle.ws2s_context.proofs.context.projected.Given as goal
 
 abbrev pub invariant-loop-t : goal.invariant-loop-t

@@ -1,8 +1,8 @@
 use Rattle.std.proofs.Common.{◌∙◌, [], ◌∷◌, sym, ap, Option}
 use Rattle.ws2s_core.specs.declared.formula.Formula.{Formula}
 use Rattle.ws2s_core.specs.declared.node.FormulaId.{FormulaId}
-use Rattle.ws2s_context.specs.Conjuncts.{formula_of, context_at, after}
-use Rattle.ws2s_context.proofs.ConjunctsLemmas.{made-And}
+use Rattle.ws2s_facts.specs.Conjuncts.{formula_of, context_at, after}
+use Rattle.ws2s_facts.proofs.ConjunctsLemmas.{made-And}
 use Rattle.ws2s_context.proofs.context.put_after.Goals as goal
 
 pub returns-in_ok-made-in-Some-clause-value : goal.returns-in_ok-made-in-Some-clause-value

@@ -1,8 +1,8 @@
 use Rattle.std.proofs.Common.{◌∙◌, All, List, [], ◌∷◌, ap, sym, subst, Vec}
 use Rattle.std.specs.declared.alloc.Global.{Global}
 use Rattle.ws2s_core.specs.declared.node.FormulaId.{FormulaId}
-use Rattle.ws2s_context.specs.Conjuncts.{IsConjunct, formula_of}
-use Rattle.ws2s_context.proofs.ConjunctsLemmas.{All-pushed}
+use Rattle.ws2s_facts.specs.Conjuncts.{IsConjunct, formula_of}
+use Rattle.ws2s_facts.proofs.ConjunctsLemmas.{All-pushed}
 use Rattle.ws2s_context.proofs.context.taken_conjuncts.Goals as goal
 use Rattle.ws2s_context.proofs.context.taken_conjuncts.Goals.{then-takes+in_ok-push, else-takes}
 

@@ -1,5 +1,5 @@
 use Rattle.std.proofs.Common.{All, [], ◌∷◌}
-use Rattle.ws2s_context.specs.Conjuncts.{IsConjunct, formula_of}
+use Rattle.ws2s_facts.specs.Conjuncts.{IsConjunct, formula_of}
 use Rattle.ws2s_context.proofs.context.taken_conjuncts.Given as goal
 
 abbrev pub invariant-loop-conjunct : goal.invariant-loop-conjunct

@@ -1,8 +1,8 @@
 use Rattle.std.proofs.Common.{◌∙◌, ap, sym, subst, Vec}
 use Rattle.std.specs.declared.alloc.Global.{Global}
 use Rattle.ws2s_core.specs.declared.node.FormulaId.{FormulaId}
-use Rattle.ws2s_context.specs.Conjuncts.{IsAmong}
-use Rattle.ws2s_context.proofs.ConjunctsLemmas.{IsAmong-push, Contains-at}
+use Rattle.ws2s_facts.specs.Conjuncts.{IsAmong}
+use Rattle.ws2s_facts.proofs.ConjunctsLemmas.{IsAmong-push, Contains-at}
 use Rattle.ws2s_context.proofs.crossing.choose_crossing.Goals as goal
 use Rattle.ws2s_context.proofs.crossing.choose_crossing.Goals.{then-is_crossing+in_ok-push, else-is_crossing}
 

@@ -1,4 +1,4 @@
-use Rattle.ws2s_context.proofs.ConjunctsLemmas.{there-extends, Extends-trans}
+use Rattle.ws2s_facts.proofs.ConjunctsLemmas.{there-extends, Extends-trans}
 use Rattle.ws2s_context.proofs.GoingLemmas.{IsSame-beside}
 use Rattle.ws2s_context.proofs.crossing.crossed.Goals as goal
 

@@ -1,7 +1,7 @@
 use Rattle.std.proofs.Common.{All, List, sym, subst}
 use Rattle.ws2s_core.specs.declared.node.FormulaId.{FormulaId}
-use Rattle.ws2s_context.specs.Conjuncts.{IsConjunct, context_at}
-use Rattle.ws2s_context.proofs.ConjunctsLemmas.{there-chosen, Implies-chosen}
+use Rattle.ws2s_facts.specs.Conjuncts.{IsConjunct, context_at}
+use Rattle.ws2s_facts.proofs.ConjunctsLemmas.{there-chosen, Implies-chosen}
 use Rattle.ws2s_context.proofs.crossing.crossing.Goals as goal
 
 pub conjunction_of-requires-clause-there : goal.conjunction_of-requires-clause-there

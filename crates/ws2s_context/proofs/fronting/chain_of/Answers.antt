@@ -2,7 +2,7 @@ use Rattle.std.proofs.Common.{sym, subst}
 use Rattle.ws2s_lean.specs.Conjunctions.{IsConjunction}
 use Rattle.ws2s_lean.proofs.ConjunctionsLemmas.{IsConjunction-one}
 use Rattle.ws2s_context.specs.declared.fronting.Chain.{Chain}
-use Rattle.ws2s_context.specs.Conjuncts.{formula_of}
+use Rattle.ws2s_facts.specs.Conjuncts.{formula_of}
 use Rattle.ws2s_context.specs.Fronting.{links}
 use Rattle.ws2s_context.proofs.fronting.chain_of.Goals as goal
 use Rattle.ws2s_context.proofs.fronting.chain_of.Goals.{else-steps-test, then-steps-test+in_ok-go_left+then-not-branch}

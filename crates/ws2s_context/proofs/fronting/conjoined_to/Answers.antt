@@ -2,9 +2,9 @@ use Rattle.std.proofs.Common.{Some, ◌∙◌, ap, length, refl, sym}
 use Rattle.std.proofs.lemmas.List.Elements.{All-pop}
 use Rattle.std.proofs.lemmas.List.{nil_from_length}
 use Rattle.ws2s_core.specs.declared.formula.Formula.TheVariants.{And}
-use Rattle.ws2s_context.specs.Conjuncts.{IsThere, formula_of}
+use Rattle.ws2s_facts.specs.Conjuncts.{IsThere, formula_of}
 use Rattle.ws2s_context.specs.Fronting.{links}
-use Rattle.ws2s_context.proofs.ConjunctsLemmas.{Extends-trans, at-extends, there-extends, made-And, parts-And, there-made}
+use Rattle.ws2s_facts.proofs.ConjunctsLemmas.{Extends-trans, at-extends, there-extends, made-And, parts-And, there-made}
 use Rattle.ws2s_context.proofs.FrontingLemmas.{IsFronting-first, IsFronting-next, Same-fronted}
 use Rattle.ws2s_context.proofs.fronting.conjoined_to.Goals as goal
 

@@ -1,7 +1,7 @@
 use Rattle.std.proofs.Common.{All, vec_len}
 use Rattle.ws2s_core.specs.Nodes.{Extends}
-use Rattle.ws2s_context.specs.Conjuncts.{IsThere, formula_of}
-use Rattle.ws2s_context.specs.Facts.{AreFacts}
+use Rattle.ws2s_facts.specs.Conjuncts.{IsThere, formula_of}
+use Rattle.ws2s_facts.specs.Facts.{AreFacts}
 use Rattle.ws2s_context.specs.Fronting.{IsFronting, links}
 use Rattle.ws2s_context.proofs.fronting.conjoined_to.Given as goal
 

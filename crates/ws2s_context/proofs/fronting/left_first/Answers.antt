@@ -2,7 +2,7 @@ use Rattle.std.proofs.Common.{sym, subst}
 use Rattle.ws2s_core.specs.declared.formula.Formula.{Formula}
 use Rattle.ws2s_core.specs.Satisfaction.{Same}
 use Rattle.ws2s_lean.proofs.NumbersLemmas.{at-And}
-use Rattle.ws2s_context.specs.Conjuncts.{formula_of}
+use Rattle.ws2s_facts.specs.Conjuncts.{formula_of}
 use Rattle.ws2s_context.proofs.fronting.left_first.Goals as goal
 
 pub returns-in_ok-made-in-And-clause-same : goal.returns-in_ok-made-in-And-clause-same

@@ -1,7 +1,7 @@
 use Rattle.std.proofs.Common.{sym, subst, Option}
 use Rattle.ws2s_core.specs.declared.node.FormulaId.{FormulaId}
 use Rattle.ws2s_theory.specs.Contexts.{SameUnder}
-use Rattle.ws2s_context.specs.Conjuncts.{formula_of, context_at}
+use Rattle.ws2s_facts.specs.Conjuncts.{formula_of, context_at}
 use Rattle.ws2s_context.proofs.FrontingLemmas.{SameUnder-fronted}
 use Rattle.ws2s_context.proofs.fronting.put_context_first.Goals as goal
 

@@ -1,7 +1,7 @@
 use Rattle.std.proofs.Common.{subst, List}
 use Rattle.ws2s_context.specs.declared.task.Task.{Task}
 use Rattle.ws2s_context.specs.Going.{IsGoing}
-use Rattle.ws2s_context.proofs.ConjunctsLemmas.{Extends-refl, Extends-trans}
+use Rattle.ws2s_facts.proofs.ConjunctsLemmas.{Extends-refl, Extends-trans}
 use Rattle.ws2s_context.proofs.machine.run.Goals as goal
 
 pub tasks-init : goal.tasks-init

@@ -1,5 +1,5 @@
 use Rattle.ws2s_core.specs.Nodes.{Extends}
-use Rattle.ws2s_context.specs.Facts.{AreFacts}
+use Rattle.ws2s_facts.specs.Facts.{AreFacts}
 use Rattle.ws2s_context.specs.Going.{IsGoing}
 use Rattle.ws2s_context.proofs.machine.run.Given as goal
 

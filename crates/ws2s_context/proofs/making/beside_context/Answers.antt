@@ -2,8 +2,8 @@ use Rattle.std.proofs.Common.{◌∷◌, [], sym, subst, Option}
 use Rattle.ws2s_core.specs.declared.formula.Formula.{Formula}
 use Rattle.ws2s_core.specs.declared.node.FormulaId.{FormulaId}
 use Rattle.ws2s_theory.specs.Contexts.{SameUnder}
-use Rattle.ws2s_context.specs.Conjuncts.{formula_of, context_at}
-use Rattle.ws2s_context.proofs.ConjunctsLemmas.{made-And}
+use Rattle.ws2s_facts.specs.Conjuncts.{formula_of, context_at}
+use Rattle.ws2s_facts.proofs.ConjunctsLemmas.{made-And}
 use Rattle.ws2s_context.proofs.GoingLemmas.{SameUnder-beside}
 use Rattle.ws2s_context.proofs.making.beside_context.Goals as goal
 

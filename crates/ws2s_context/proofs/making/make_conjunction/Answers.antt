@@ -1,5 +1,5 @@
 use Rattle.std.proofs.Common.{length}
-use Rattle.ws2s_context.proofs.ConjunctsLemmas.{parts-And, made-And, there-made}
+use Rattle.ws2s_facts.proofs.ConjunctsLemmas.{parts-And, made-And, there-made}
 use Rattle.ws2s_context.proofs.GoingLemmas.{IsGoing-extends, IsGoing-made, IsSame-conjunction}
 use Rattle.ws2s_context.proofs.making.make_conjunction.Goals as goal
 

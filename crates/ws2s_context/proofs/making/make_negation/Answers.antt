@@ -1,4 +1,4 @@
-use Rattle.ws2s_context.proofs.ConjunctsLemmas.{Extends-trans, IsContext-extends}
+use Rattle.ws2s_facts.proofs.ConjunctsLemmas.{Extends-trans, IsContext-extends}
 use Rattle.ws2s_context.proofs.GoingLemmas.{IsGoing-extends, IsGoing-made, IsSame-negation, IsNegating-extends}
 use Rattle.ws2s_context.proofs.making.make_negation.Goals as goal
 

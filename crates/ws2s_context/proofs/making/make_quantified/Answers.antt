@@ -1,5 +1,5 @@
 use Rattle.std.proofs.Common.{length}
-use Rattle.ws2s_context.proofs.ConjunctsLemmas.{parts-Ex2, made-Ex2, there-made, Extends-trans}
+use Rattle.ws2s_facts.proofs.ConjunctsLemmas.{parts-Ex2, made-Ex2, there-made, Extends-trans}
 use Rattle.ws2s_context.proofs.GoingLemmas.{IsGoing-extends, IsGoing-made, IsSame-quantified}
 use Rattle.ws2s_context.proofs.making.make_quantified.Goals as goal
 

@@ -1,5 +1,5 @@
 use Rattle.std.proofs.Common.{length}
-use Rattle.ws2s_context.proofs.ConjunctsLemmas.{parts-Not, made-Not, there-made, there-extends, IsContext-extends, Extends-trans}
+use Rattle.ws2s_facts.proofs.ConjunctsLemmas.{parts-Not, made-Not, there-made, there-extends, IsContext-extends, Extends-trans}
 use Rattle.ws2s_context.proofs.GoingLemmas.{SameUnder-negated}
 use Rattle.ws2s_context.proofs.making.negated.Goals as goal
 

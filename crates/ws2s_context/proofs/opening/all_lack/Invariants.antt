@@ -2,8 +2,8 @@ use Rattle.std.proofs.Common.{List, length}
 use Rattle.std.specs.List.{AllByRecursion}
 use Rattle.ws2s_core.specs.declared.formula.Formula.{Formula}
 use Rattle.ws2s_core.specs.Tracks.{IsFree}
-use Rattle.ws2s_context.specs.Conjuncts.{formula_of}
-use Rattle.ws2s_context.specs.Facts.{AreFacts}
+use Rattle.ws2s_facts.specs.Conjuncts.{formula_of}
+use Rattle.ws2s_facts.specs.Facts.{AreFacts}
 use Rattle.ws2s_context.proofs.opening.all_lack.Given as goal
 
 abbrev pub invariant-loop-conjunct : goal.invariant-loop-conjunct

@@ -7,7 +7,7 @@ use Rattle.ws2s_core.specs.declared.formula.Formula.TheVariants.{rolls-And, roll
 use Rattle.ws2s_core.specs.Nodes.{formula_of_node}
 use Rattle.ws2s_core.proofs.NodesLemmas.{formula_at-is}
 use Rattle.ws2s_theory.specs.Contexts.{conjoined}
-use Rattle.ws2s_context.specs.Conjuncts.{formula_of, formulas_at}
+use Rattle.ws2s_facts.specs.Conjuncts.{formula_of, formulas_at}
 use Rattle.ws2s_context.specs.Opening.{IsOpened, spined}
 use Rattle.ws2s_context.proofs.OpeningLemmas.{IsOpened-refl, IsOpened-conjoined, conjoined-pushed}
 use Rattle.ws2s_context.proofs.opening.descend.Goals as goal

@@ -2,8 +2,8 @@ use Rattle.std.proofs.Common.{◌∙◌, Some, ap, sym}
 use Rattle.std.proofs.lemmas.List.Elements.{All-pop}
 use Rattle.ws2s_core.specs.declared.formula.Formula.TheVariants.{And}
 use Rattle.ws2s_theory.specs.Contexts.{conjoined}
-use Rattle.ws2s_context.specs.Conjuncts.{IsThere, formula_of, formulas_at}
-use Rattle.ws2s_context.proofs.ConjunctsLemmas.{Extends-trans, at-extends, made-And, there-made}
+use Rattle.ws2s_facts.specs.Conjuncts.{IsThere, formula_of, formulas_at}
+use Rattle.ws2s_facts.proofs.ConjunctsLemmas.{Extends-trans, at-extends, made-And, there-made}
 use Rattle.ws2s_context.proofs.OpeningLemmas.{conjoined-pushed}
 use Rattle.ws2s_context.proofs.opening.joined_again.Goals as goal
 

@@ -1,8 +1,8 @@
 use Rattle.std.proofs.Common.{◌≡◌, All, vec_len}
 use Rattle.ws2s_core.specs.Nodes.{Extends}
 use Rattle.ws2s_theory.specs.Contexts.{conjoined}
-use Rattle.ws2s_context.specs.Conjuncts.{IsThere, formula_of, formulas_at}
-use Rattle.ws2s_context.specs.Facts.{AreFacts}
+use Rattle.ws2s_facts.specs.Conjuncts.{IsThere, formula_of, formulas_at}
+use Rattle.ws2s_facts.specs.Facts.{AreFacts}
 use Rattle.ws2s_context.specs.Opening.{spined}
 use Rattle.ws2s_context.proofs.opening.joined_again.Given as goal
 

@@ -1,6 +1,6 @@
 use Rattle.std.proofs.Common.{ℕ, List, sym, subst}
 use Rattle.ws2s_context.specs.declared.opening.Spine.{Spine}
-use Rattle.ws2s_context.specs.Conjuncts.{formula_of}
+use Rattle.ws2s_facts.specs.Conjuncts.{formula_of}
 use Rattle.ws2s_context.specs.Opening.{AreOf, IsOpened, spined}
 use Rattle.ws2s_context.proofs.OpeningLemmas.{IsOpened-trans}
 use Rattle.ws2s_context.proofs.opening.spine_of.Goals as goal

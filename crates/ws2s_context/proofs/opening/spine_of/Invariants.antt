@@ -1,5 +1,5 @@
 use Rattle.std.proofs.Common.{ℕ, List}
-use Rattle.ws2s_context.specs.Conjuncts.{formula_of}
+use Rattle.ws2s_facts.specs.Conjuncts.{formula_of}
 use Rattle.ws2s_context.specs.Opening.{AreOf, IsOpened, IsSpine, spined}
 use Rattle.ws2s_context.proofs.opening.spine_of.Given as goal
 

@@ -4,8 +4,8 @@ use Rattle.ws2s_core.specs.declared.formula.Formula.{Formula}
 use Rattle.ws2s_core.specs.Satisfaction.{Same}
 use Rattle.ws2s_core.proofs.NodesLemmas.{formula_at-is, at-formula_at}
 use Rattle.ws2s_lean.proofs.ConjunctionsLemmas.{Same-trans}
-use Rattle.ws2s_context.specs.Conjuncts.{formula_of}
-use Rattle.ws2s_context.proofs.ConjunctsLemmas.{Extends-trans}
+use Rattle.ws2s_facts.specs.Conjuncts.{formula_of}
+use Rattle.ws2s_facts.proofs.ConjunctsLemmas.{Extends-trans}
 use Rattle.ws2s_context.proofs.rewriting.folded_left.Goals as goal
 
 pub lean_left-requires : goal.lean_left-requires

@@ -1,6 +1,6 @@
 use Rattle.ws2s_lean.proofs.ConjunctionsLemmas.{Same-trans}
-use Rattle.ws2s_context.specs.Conjuncts.{formula_of}
-use Rattle.ws2s_context.proofs.ConjunctsLemmas.{there-extends, Extends-trans}
+use Rattle.ws2s_facts.specs.Conjuncts.{formula_of}
+use Rattle.ws2s_facts.proofs.ConjunctsLemmas.{there-extends, Extends-trans}
 use Rattle.ws2s_context.proofs.GoingLemmas.{Same-rewritten}
 use Rattle.ws2s_context.proofs.rewriting.rewritten.Goals as goal
 

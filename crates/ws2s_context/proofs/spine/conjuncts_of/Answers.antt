@@ -1,7 +1,7 @@
 use Rattle.std.proofs.Common.{[], ◌∷◌, Some}
 use Rattle.std.proofs.lemmas.List.Elements.{All-pop}
-use Rattle.ws2s_context.specs.Conjuncts.{IsConjunct, formula_of}
-use Rattle.ws2s_context.proofs.ConjunctsLemmas.{All-empty, All-pushed, IsConjunct-itself}
+use Rattle.ws2s_facts.specs.Conjuncts.{IsConjunct, formula_of}
+use Rattle.ws2s_facts.proofs.ConjunctsLemmas.{All-empty, All-pushed, IsConjunct-itself}
 use Rattle.ws2s_context.proofs.spine.conjuncts_of.Goals as goal
 
 pub looks-init : goal.looks-init

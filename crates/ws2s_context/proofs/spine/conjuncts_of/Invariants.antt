@@ -1,5 +1,5 @@
 use Rattle.std.proofs.Common.{[], ◌∷◌}
-use Rattle.ws2s_context.specs.Conjuncts.{AreConjuncts, formula_of}
+use Rattle.ws2s_facts.specs.Conjuncts.{AreConjuncts, formula_of}
 use Rattle.ws2s_context.proofs.spine.conjuncts_of.Given as goal
 
 abbrev pub invariant-looks : goal.invariant-looks

@@ -1,4 +1,4 @@
-use Rattle.ws2s_context.proofs.ConjunctsLemmas.{IsConjunct-node}
+use Rattle.ws2s_facts.proofs.ConjunctsLemmas.{IsConjunct-node}
 use Rattle.ws2s_context.proofs.spine.halves_of.Goals as goal
 
 pub returns-in-And : goal.returns-in-And

@@ -1,5 +1,5 @@
-use Rattle.ws2s_context.specs.Conjuncts.{IsConjunct}
-use Rattle.ws2s_context.proofs.ConjunctsLemmas.{All-pushed}
+use Rattle.ws2s_facts.specs.Conjuncts.{IsConjunct}
+use Rattle.ws2s_facts.proofs.ConjunctsLemmas.{All-pushed}
 use Rattle.ws2s_context.proofs.spine.look.Goals as goal
 
 pub returns : goal.returns

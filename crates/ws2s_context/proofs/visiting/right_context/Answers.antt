@@ -1,4 +1,4 @@
-use Rattle.ws2s_context.proofs.ConjunctsLemmas.{Extends-trans, IsContext-extends, there-extends}
+use Rattle.ws2s_facts.proofs.ConjunctsLemmas.{Extends-trans, IsContext-extends, there-extends}
 use Rattle.ws2s_context.proofs.GoingLemmas.{IsConjoining-turned}
 use Rattle.ws2s_context.proofs.visiting.right_context.Goals as goal
 

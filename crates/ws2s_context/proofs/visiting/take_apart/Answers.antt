@@ -1,8 +1,8 @@
 use Rattle.std.proofs.Common.{◌∙◌, ap, length, subst}
 use Rattle.ws2s_core.specs.declared.formula.Formula.TheVariants.{rolls-And, rolls-Not, rolls-Ex2}
 use Rattle.ws2s_core.specs.Nodes.{formula_of_node, HasPartsBelow}
-use Rattle.ws2s_context.specs.Conjuncts.{formula_of}
-use Rattle.ws2s_context.proofs.ConjunctsLemmas.{halves-below, part-below_not, part-below_ex2}
+use Rattle.ws2s_facts.specs.Conjuncts.{formula_of}
+use Rattle.ws2s_facts.proofs.ConjunctsLemmas.{halves-below, part-below_not, part-below_ex2}
 use Rattle.ws2s_context.proofs.visiting.take_apart.Goals as goal
 
 pub divide-requires-clause-is : goal.divide-requires-clause-is

@@ -3,7 +3,7 @@ use Rattle.ws2s_core.specs.declared.track.Track.{Track}
 use Rattle.ws2s_core.specs.declared.formula.Formula.{Formula}
 use Rattle.ws2s_core.specs.declared.label_tree.TreeNode.{TreeNode}
 use Rattle.ws2s_core.proofs.NodesLemmas.{at-formula_at}
-use Rattle.ws2s_context.specs.Conjuncts.{IsThere, formula_of}
+use Rattle.ws2s_facts.specs.Conjuncts.{IsThere, formula_of}
 use Rattle.ws2s_plan.specs.declared.network.Elimination.{Elimination}
 use Rattle.ws2s_plan.specs.Plan.{is_gone}
 use Rattle.ws2s_plan.proofs.PlanLemmas.{none-long, front, last}

@@ -1,6 +1,6 @@
 use Rattle.std.proofs.Common.{[], All, length}
 use Rattle.ws2s_core.specs.declared.formula.Formula.{Formula}
-use Rattle.ws2s_context.specs.Conjuncts.{IsThere}
+use Rattle.ws2s_facts.specs.Conjuncts.{IsThere}
 use Rattle.ws2s_plan.specs.declared.network.Elimination.{Elimination}
 use Rattle.ws2s_plan.specs.Plan.{IsNetworkOf}
 use Rattle.ws2s_decide.specs.Going.{Rests}

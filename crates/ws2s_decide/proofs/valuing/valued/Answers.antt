@@ -2,7 +2,7 @@ use Rattle.std.proofs.Common.{ℕ, List, [], ◌∷◌, ◌≡◌, Some, slice_g
 use Rattle.gta_keep.specs.Holding.{IsMinimalFor, kept_autos}
 use Rattle.ws2s_core.specs.declared.formula.Formula.{Formula}
 use Rattle.ws2s_core.specs.declared.label_tree.TreeNode.{TreeNode}
-use Rattle.ws2s_context.proofs.FactsLemmas.{found-weaker}
+use Rattle.ws2s_facts.proofs.FactsLemmas.{found-weaker}
 use Rattle.ws2s_decide.specs.Networks.{IsValued}
 use Rattle.ws2s_decide.proofs.BackLemmas.{Rests-released}
 use Rattle.ws2s_decide.proofs.valuing.valued.Goals as goal

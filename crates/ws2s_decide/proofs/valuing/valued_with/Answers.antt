@@ -6,7 +6,7 @@ use Rattle.gta_keep.proofs.HoldingLemmas.{Holds-registers, Holds-registered, kep
 use Rattle.gta_keep.proofs.CopyLemmas.{IsMinimalFor-kept}
 use Rattle.ws2s_core.specs.declared.formula.Formula.{Formula}
 use Rattle.ws2s_core.specs.declared.label_tree.TreeNode.{TreeNode}
-use Rattle.ws2s_context.proofs.FactsLemmas.{found-weaker}
+use Rattle.ws2s_facts.proofs.FactsLemmas.{found-weaker}
 use Rattle.ws2s_decide.specs.Networks.{IsTreeOfBoth, IsValued}
 use Rattle.ws2s_decide.proofs.BackLemmas.{Releases-failed, Releases-made, IsValued-both}
 use Rattle.ws2s_decide.proofs.valuing.valued_with.Goals as goal

@@ -1,5 +1,5 @@
 use Rattle.std.proofs.Common.{[]}
-use Rattle.ws2s_context.proofs.ConjunctsLemmas.{Extends-trans}
+use Rattle.ws2s_facts.proofs.ConjunctsLemmas.{Extends-trans}
 use Rattle.ws2s_decide.proofs.OwnLemmas.{IsReady-extends}
 use Rattle.ws2s_decide.proofs.WaysLemmas.{Rests-extends, there-still}
 use Rattle.ws2s_decide.proofs.ways.decide_number.Goals as goal

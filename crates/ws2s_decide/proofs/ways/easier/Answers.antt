@@ -1,4 +1,4 @@
-use Rattle.ws2s_context.proofs.ConjunctsLemmas.{Extends-trans}
+use Rattle.ws2s_facts.proofs.ConjunctsLemmas.{Extends-trans}
 use Rattle.ws2s_decide.proofs.WaysLemmas.{TellsOf-same, TellsOf-opened}
 use Rattle.ws2s_decide.proofs.ways.easier.Goals as goal
 

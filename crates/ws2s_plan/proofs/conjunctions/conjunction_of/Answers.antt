@@ -2,8 +2,8 @@ use Rattle.std.proofs.Common.{List, All, ◌∙◌, ap, length, subst, sym}
 use Rattle.std.proofs.lemmas.List.Elements.{All-head, All-tail}
 use Rattle.ws2s_core.specs.declared.formula.Formula.TheVariants.{And}
 use Rattle.ws2s_core.specs.declared.node.FormulaId.{FormulaId}
-use Rattle.ws2s_context.specs.Conjuncts.{IsThere, formula_of}
-use Rattle.ws2s_context.proofs.ConjunctsLemmas.{Extends-refl, Extends-trans, at-extends, there-extends, made-And, there-made, parts-And}
+use Rattle.ws2s_facts.specs.Conjuncts.{IsThere, formula_of}
+use Rattle.ws2s_facts.proofs.ConjunctsLemmas.{Extends-refl, Extends-trans, at-extends, there-extends, made-And, there-made, parts-And}
 use Rattle.ws2s_lean.specs.Conjunctions.{IsFolded}
 use Rattle.ws2s_plan.proofs.PlanLemmas.{none-long, IsFolded-nil, IsFolded-step}
 use Rattle.ws2s_plan.proofs.conjunctions.conjunction_of.Goals as goal

@@ -1,8 +1,8 @@
 use Rattle.std.proofs.Common.{All, length}
 use Rattle.ws2s_core.specs.declared.formula.Formula.{Formula}
 use Rattle.ws2s_core.specs.Nodes.{Extends}
-use Rattle.ws2s_context.specs.Conjuncts.{IsThere, formula_of}
-use Rattle.ws2s_context.specs.Facts.{AreFacts}
+use Rattle.ws2s_facts.specs.Conjuncts.{IsThere, formula_of}
+use Rattle.ws2s_facts.specs.Facts.{AreFacts}
 use Rattle.ws2s_lean.specs.Conjunctions.{IsFolded}
 use Rattle.ws2s_plan.proofs.conjunctions.conjunction_of.Given as goal
 

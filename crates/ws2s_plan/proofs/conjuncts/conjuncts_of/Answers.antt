@@ -1,7 +1,7 @@
 use Rattle.std.proofs.Common.{ℕ, List, [], ◌∷◌, ◌++◌, ◌∙◌, ap, nat_eq, refl, sym}
 use Rattle.std.specs.List.{list_any}
 use Rattle.ws2s_core.specs.declared.node.FormulaId.{FormulaId}
-use Rattle.ws2s_context.specs.Conjuncts.{formula_of}
+use Rattle.ws2s_facts.specs.Conjuncts.{formula_of}
 use Rattle.ws2s_plan.proofs.PlanLemmas.{none-long, IsTaking-start, IsTaking-popped, IsConjunction-taken, IsConjunction-alone}
 use Rattle.ws2s_plan.proofs.conjuncts.conjuncts_of.Goals as goal
 

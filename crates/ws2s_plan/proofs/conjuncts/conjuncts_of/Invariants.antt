@@ -1,5 +1,5 @@
 use Rattle.std.proofs.Common.{[]}
-use Rattle.ws2s_context.specs.Conjuncts.{formula_of}
+use Rattle.ws2s_facts.specs.Conjuncts.{formula_of}
 use Rattle.ws2s_plan.specs.Steps.{IsTaking}
 use Rattle.ws2s_plan.proofs.conjuncts.conjuncts_of.Given as goal
 

@@ -1,8 +1,8 @@
 use Rattle.std.proofs.Common.{List, All, ◌∙◌, subst, sym, length}
 use Rattle.std.proofs.lemmas.List.Elements.{All-head, All-tail}
 use Rattle.ws2s_core.specs.declared.node.FormulaId.{FormulaId}
-use Rattle.ws2s_context.specs.Conjuncts.{IsThere}
-use Rattle.ws2s_context.proofs.ConjunctsLemmas.{Extends-trans, made-Ex2, there-made, parts-Ex2}
+use Rattle.ws2s_facts.specs.Conjuncts.{IsThere}
+use Rattle.ws2s_facts.proofs.ConjunctsLemmas.{Extends-trans, made-Ex2, there-made, parts-Ex2}
 use Rattle.ws2s_plan.proofs.PlanLemmas.{IsEliminatedBy-parted}
 use Rattle.ws2s_plan.proofs.eliminating.eliminate_from.Goals as goal
 

@@ -1,7 +1,7 @@
 use Rattle.std.proofs.Common.{List, All, length}
 use Rattle.ws2s_core.specs.declared.formula.Formula.{Formula}
-use Rattle.ws2s_context.specs.Conjuncts.{IsThere}
-use Rattle.ws2s_context.specs.Facts.{AreFacts}
+use Rattle.ws2s_facts.specs.Conjuncts.{IsThere}
+use Rattle.ws2s_facts.specs.Facts.{AreFacts}
 use Rattle.ws2s_plan.specs.Steps.{IsParted}
 use Rattle.ws2s_plan.proofs.eliminating.parts_of.Given as goal
 

@@ -1,4 +1,4 @@
-use Rattle.ws2s_context.proofs.ConjunctsLemmas.{Extends-refl, Extends-trans}
+use Rattle.ws2s_facts.proofs.ConjunctsLemmas.{Extends-refl, Extends-trans}
 use Rattle.ws2s_plan.proofs.planning.eliminate_all.Goals as goal
 
 pub loop-place-init : goal.loop-place-init

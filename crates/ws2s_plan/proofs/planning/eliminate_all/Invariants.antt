@@ -2,8 +2,8 @@ use Rattle.std.proofs.Common.{List, All, length}
 use Rattle.ws2s_core.specs.declared.track.Track.{Track}
 use Rattle.ws2s_core.specs.declared.formula.Formula.{Formula}
 use Rattle.ws2s_core.specs.Nodes.{Extends}
-use Rattle.ws2s_context.specs.Conjuncts.{IsThere}
-use Rattle.ws2s_context.specs.Facts.{AreFacts}
+use Rattle.ws2s_facts.specs.Conjuncts.{IsThere}
+use Rattle.ws2s_facts.specs.Facts.{AreFacts}
 use Rattle.ws2s_plan.specs.Steps.{IsPlanning}
 use Rattle.ws2s_plan.proofs.planning.eliminate_all.Given as goal
 

@@ -1,7 +1,7 @@
 use Rattle.std.proofs.Common.{List, All, ◌∙◌, refl, sym, subst}
 use Rattle.std.proofs.lemmas.List.Elements.{All-head, All-tail}
 use Rattle.ws2s_core.specs.declared.node.FormulaId.{FormulaId}
-use Rattle.ws2s_context.specs.Conjuncts.{IsThere}
+use Rattle.ws2s_facts.specs.Conjuncts.{IsThere}
 use Rattle.ws2s_plan.proofs.PlanLemmas.{IsNetworkOf-finished}
 use Rattle.ws2s_plan.proofs.planning.finished.Goals as goal
 

@@ -1,4 +1,4 @@
-use Rattle.ws2s_context.specs.Conjuncts.{formula_of}
+use Rattle.ws2s_facts.specs.Conjuncts.{formula_of}
 use Rattle.ws2s_plan.proofs.PlanLemmas.{IsPlanning-start}
 use Rattle.ws2s_plan.proofs.planning.first_planning.Goals as goal
 

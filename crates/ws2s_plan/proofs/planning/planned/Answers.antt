@@ -3,8 +3,8 @@ use Rattle.std.specs.declared.alloc.Global.{Global}
 use Rattle.ws2s_core.specs.declared.track.Track.{Track}
 use Rattle.ws2s_core.specs.declared.formula.Formula.{Formula}
 use Rattle.ws2s_core.specs.Tracks.{IsFree}
-use Rattle.ws2s_context.specs.Conjuncts.{formula_of}
-use Rattle.ws2s_context.specs.Facts.{AreFacts}
+use Rattle.ws2s_facts.specs.Conjuncts.{formula_of}
+use Rattle.ws2s_facts.specs.Facts.{AreFacts}
 use Rattle.ws2s_plan.specs.declared.network.Network.{Network}
 use Rattle.ws2s_plan.specs.Plan.{AreAllTracks, IsNetworkOf}
 use Rattle.ws2s_plan.specs.Steps.{IsPlanning}

@@ -1,6 +1,6 @@
 use Rattle.std.proofs.Common.{arith, subst}
 use Rattle.ws2s_core.specs.Nodes.{HasPartsBelow}
-use Rattle.ws2s_context.proofs.ConjunctsLemmas.{halves-below}
+use Rattle.ws2s_facts.proofs.ConjunctsLemmas.{halves-below}
 use Rattle.ws2s_context.proofs.choice.Choice.follow.Goals as goal
 
 pub pass-requires : goal.pass-requires

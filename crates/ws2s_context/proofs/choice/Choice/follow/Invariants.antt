@@ -1,4 +1,4 @@
-use Rattle.ws2s_context.specs.Conjuncts.{IsThere}
+use Rattle.ws2s_facts.specs.Conjuncts.{IsThere}
 use Rattle.ws2s_context.proofs.choice.Choice.follow.Given as goal
 
 abbrev pub invariant-steps : goal.invariant-steps

@@ -1,4 +1,0 @@
-use Rattle.ws2s_context.proofs.facts.Facts.found_atom.Goals as goal
-
-pub returns : goal.returns
-returns c = record { exactly = λ formulas known t. c.in_ok-tracks.ensures t }

@@ -1,0 +1,2 @@
+pub mod ConjunctsLemmas
+pub mod FactsLemmas
