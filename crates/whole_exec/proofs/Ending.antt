@@ -11,12 +11,12 @@ use Rattle.whole_run.specs.States.{Frame, Waiting, State, runs, exited, fails, A
 use Rattle.whole_run.proofs.AnswerStanding.{Holds}
 use Rattle.whole_trace.specs.Stopping.{LeftStops}
 use Rattle.whole_trace.specs.Traces.{Stand, Rests, Traces, proc_at, stand_at, calls_of}
-use Rattle.whole_exec.specs.declared.activation.At.{At}
-use Rattle.whole_exec.specs.declared.halted.Halted.{Halted}
-use Rattle.whole_exec.specs.declared.traced.RunEnd.{RunEnd}
-use Rattle.whole_exec.specs.declared.traced.RunEnd.TheVariants as end
+use Rattle.whole_turns.specs.declared.activation.At.{At}
+use Rattle.whole_turns.specs.declared.halted.Halted.{Halted}
+use Rattle.whole_turns.specs.declared.ending.RunEnd.{RunEnd}
+use Rattle.whole_turns.specs.declared.ending.RunEnd.TheVariants as end
 use Rattle.whole_exec.specs.Answers.{answer_with, stand_of}
-use Rattle.whole_exec.specs.Turning.{EndsAs}
+use Rattle.whole_turns.specs.Turning.{EndsAs}
 use Rattle.whole_exec.proofs.Going.{IsGoing, IsRecorded, ends_here}
 use Rattle.whole_exec.proofs.Naming.{IsNamed, StandFits, rest-fits, stop-fits}
 
@@ -38,14 +38,6 @@ end_fits program number puts fit state (end.Fail why line) at (leads, stops) hol
 end_fits program number puts fit state end.Exit at is holds named =
     subst (λ (x : State). StandFits program number (proc_at number (calls_of x)) at) (sym is)
     (rest-fits program number (exited at []) (subst (Holds program) is holds) (subst (IsNamed program number) is named))
-
--- what is said of a step that fails
-pub halted_at : (program : TypedProgram) (entry : ProcEntry) (s : StoreMap) (left : List Stmt) (end : Result At Halted) (halted : Halted) →
-    end ≡ Err halted → IfErr end (λ h. LeftStops program entry s left h.at) → LeftStops program entry s left halted.at
-halted_at program entry s left end halted is h = subst (λ (e : Result At Halted). IfErr e (λ x. LeftStops program entry s left x.at)) is h
-
-pub kept_at : (old new : List Waiting) (end : Result At Halted) (halted : Halted) → end ≡ Err halted → IfErr end (λ h. new ≡ old) → new ≡ old
-kept_at old new end halted is h = subst (λ (e : Result At Halted). IfErr e (λ x. new ≡ old)) is h
 
 -- ---- where it rests
 

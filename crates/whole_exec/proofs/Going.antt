@@ -14,10 +14,10 @@ use Rattle.store_trace.specs.Recording.{recorded}
 use Rattle.store_trace.proofs.RecordedLemmas.{recorded-none, recorded-then}
 use Rattle.whole_trace.specs.Shown.{state_shows}
 use Rattle.whole_trace.specs.Traces.{Stand, Leads, Traces, TracedRun}
-use Rattle.whole_exec.specs.declared.activation.Activation.{Activation}
+use Rattle.whole_turns.specs.declared.activation.Activation.{Activation}
 use Rattle.whole_exec.specs.Starting.{CanStart}
-use Rattle.whole_exec.specs.Standings.{entry_of, frame_of}
-use Rattle.whole_exec.specs.Turning.{IsEntered}
+use Rattle.whole_turns.specs.Standings.{entry_of, frame_of}
+use Rattle.whole_turns.specs.Turning.{IsEntered}
 use Rattle.whole_run.proofs.AnswerLaws.{Laws}
 use Rattle.whole_run.proofs.AnswerStanding.{Holds, next_of, OnTurn}
 use Rattle.whole_run.proofs.AnswerSteps.{takes_on}

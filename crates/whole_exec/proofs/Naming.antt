@@ -24,7 +24,7 @@ use Rattle.whole_run.proofs.Blocks.{form_fits}
 use Rattle.whole_run.proofs.AnswerStanding.{Holds}
 use Rattle.whole_trace.specs.Stopping.{FormStops, LeftStops, StopsAt}
 use Rattle.whole_trace.specs.Traces.{proc_at, calls_of, store_of, Leads}
-use Rattle.whole_exec.specs.Turning.{FormFits}
+use Rattle.whole_turns.specs.Turning.{FormFits}
 
 module _ (program : TypedProgram) (number : ℕ) where
   -- the procedure of this number

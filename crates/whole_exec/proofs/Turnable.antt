@@ -12,7 +12,7 @@ use Rattle.hoare_split.specs.Cuts.{call_cut}
 use Rattle.whole_run.specs.States.{Waiting, State, runs, exited}
 use Rattle.whole_run.proofs.Beside.{rest_live}
 use Rattle.whole_run.proofs.AnswerStanding.{IsCalled, IsDone, Holds, next_of}
-use Rattle.whole_exec.specs.Turning.{CanReturn, CanTurn}
+use Rattle.whole_turns.specs.Turning.{CanReturn, CanTurn}
 
 module _ (program : TypedProgram) where
   -- a call can return: the callee's new cells have new numbers, and what stayed behind wasn't handed over

@@ -5,8 +5,8 @@ use Rattle.whole_run.specs.States as states
 use Rattle.whole_trace.specs.Traces.{Stand}
 use Rattle.whole_exec.specs.declared.answer.Answer.{Answer}
 use Rattle.whole_exec.specs.declared.answer.Answer.TheVariants as answer
-use Rattle.whole_exec.specs.declared.traced.RunEnd.{RunEnd}
-use Rattle.whole_exec.specs.declared.traced.RunEnd.TheVariants as end
+use Rattle.whole_turns.specs.declared.ending.RunEnd.{RunEnd}
+use Rattle.whole_turns.specs.declared.ending.RunEnd.TheVariants as end
 
 abbrev pub answer_of : Answer → states.Answer
 answer_of answer.Running = states.Running

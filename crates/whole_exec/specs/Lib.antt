@@ -1,4 +1,2 @@
 pub mod Answers
 pub mod Starting
-pub mod Standings
-pub mod Turning

@@ -11,13 +11,10 @@ ghost use Rattle.whole_run.specs.Runs.{WholeRun};
 ghost use Rattle.whole_trace.specs.Traces.{Traces, TracedRun, proc_at};
 ghost use Rattle.whole_exec.specs.Answers.{answer_of, answer_with, stand_of};
 ghost use Rattle.whole_exec.specs.Starting.{CanStart};
-ghost use Rattle.whole_exec.specs.Standings.{frame_of, all_waiting, state_of};
+ghost use Rattle.whole_turns.specs.Standings.{frame_of, all_waiting, state_of};
 
-use crate::activation::{Activation, At, Suspended};
 use crate::answer::Answer;
-use crate::calling::entered;
-use crate::traced::{RunEnd, RunTrace};
-use crate::turning::{Turned, turn};
+use crate::traced::RunTrace;
 use claim_laws::claims_with_actuals_put_in_fit;
 use pale_typed::Typed;
 use plain_data::Stack;
@@ -26,6 +23,7 @@ use store_core::Store;
 use store_trace::Recorder;
 use whole_run::{handed_stores_meet_the_entry, returned_stores_are_well_formed};
 use whole_trace::traces_are_whole_runs;
+use whole_turns::{Activation, At, RunEnd, Suspended, Turned, entered, turn};
 
 /// Where a run stands.
 #[derive(Drop)]

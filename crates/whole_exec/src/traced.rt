@@ -1,19 +1,8 @@
 //! What a traced run gives.
 
 use store_core::Store;
-use store_exec::Cause;
 use store_trace::EventList;
-
-/// How a run ends that has so many steps at most.
-#[derive(Clone, Copy, Debug, PartialEq, Eq)]
-pub enum RunEnd {
-    /// It needs more steps.
-    Running,
-    /// It fails with this cause at this line.
-    Fail(Cause, u32),
-    /// The procedure exits.
-    Exit,
-}
+use whole_turns::RunEnd;
 
 /// What a run showed, and where it stands.
 #[derive(Drop)]

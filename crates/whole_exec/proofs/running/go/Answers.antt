@@ -1,9 +1,9 @@
 use Rattle.std.proofs.Common.{◌∙◌, ℕ, List, is_some, sym, ap, subst, arith}
 use Rattle.whole_run.specs.States.{runs}
-use Rattle.whole_exec.specs.declared.activation.Suspended.{Suspended}
+use Rattle.whole_turns.specs.declared.activation.Suspended.{Suspended}
 use Rattle.whole_exec.specs.Answers.{answer_with, stand_of}
-use Rattle.whole_exec.specs.Standings.{frame_of, all_waiting, state_of}
-use Rattle.whole_exec.specs.Turning.{TurnsAs}
+use Rattle.whole_turns.specs.Standings.{frame_of, all_waiting, state_of}
+use Rattle.whole_turns.specs.Turning.{TurnsAs}
 use Rattle.whole_run.proofs.AnswerLaws.{Laws}
 use Rattle.whole_run.proofs.AnswerStanding.{next_of}
 use Rattle.whole_exec.proofs.Turnable.{can_turn}

@@ -1,4 +1,4 @@
-use Rattle.whole_exec.specs.Standings.{all_waiting, state_of}
+use Rattle.whole_turns.specs.Standings.{all_waiting, state_of}
 use Rattle.whole_exec.proofs.Going.{Stage}
 use Rattle.whole_exec.proofs.running.go.Given as goal
 

@@ -1,8 +1,8 @@
 use Rattle.std.proofs.Common.{[], sym, subst}
 use Rattle.whole_trace.specs.Traces.{Traces}
-use Rattle.whole_exec.specs.declared.activation.At.{At}
+use Rattle.whole_turns.specs.declared.activation.At.{At}
 use Rattle.whole_exec.specs.Answers.{answer_with, stand_of}
-use Rattle.whole_exec.specs.Standings.{all_waiting, state_of}
+use Rattle.whole_turns.specs.Standings.{all_waiting, state_of}
 use Rattle.whole_exec.proofs.running.rest_at.Goals as goal
 
 pub returns-in-Running : goal.returns-in-Running

@@ -4,7 +4,7 @@ use Rattle.store_core.specs.Stores.{StoreMap, Fits}
 use Rattle.whole_run.specs.Runs.{WholeRun}
 use Rattle.whole_trace.specs.Traces.{Stand, TracedRun}
 use Rattle.whole_exec.specs.declared.answer.Answer.TheVariants as answer
-use Rattle.whole_exec.specs.declared.traced.RunEnd.{RunEnd}
+use Rattle.whole_turns.specs.declared.ending.RunEnd.{RunEnd}
 use Rattle.whole_exec.specs.Answers.{answer_with, stand_of}
 use Rattle.whole_exec.proofs.running.run_procedure.Goals as goal
 

@@ -1,9 +1,0 @@
-use Rattle.whole_exec.specs.Standings.{left_of}
-use Rattle.whole_exec.specs.Turning.{Skips, weight_of}
-use Rattle.whole_exec.proofs.pieces.next_statement.Given as goal
-
-abbrev pub invariant-loop-piece : goal.invariant-loop-piece
-invariant-loop-piece l = Skips (left_of l.fn.left) (left_of l.left)
-
-abbrev pub decreases-loop-piece : goal.decreases-loop-piece
-decreases-loop-piece l = weight_of l.left

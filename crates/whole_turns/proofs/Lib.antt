@@ -1,0 +1,5 @@
+pub mod Codes
+pub mod PieceLemmas
+pub mod Forms
+pub mod Halting
+pub mod Values
