@@ -183,8 +183,8 @@ impl Choice {
     }
 
     /// Whether the conjunct is a `Single` atom that comes beside negations of the formula. In a text's own formula it is one of a free
-    /// position, or of one that is quantified in the innermost block: with those of outer blocks too, alternating quantifiers over pairs of
-    /// positions took fifty times as long.
+    /// position, or of one that is quantified in the innermost block, beside what relates it to others: with those of outer blocks too,
+    /// alternating quantifiers over pairs of positions took fifty times as long.
     pub(crate) fn restricts(
         &self,
         interner: &Interner,
@@ -196,7 +196,9 @@ impl Choice {
             return false;
         };
         is_relevant(facts, conjunct, id)
-            && (self.is_whole || self.blocks.has(t) || is_relevant(facts, conjunct, self.root))
+            && (self.is_whole
+                || (self.blocks.has(t) && has_others(facts, id))
+                || is_relevant(facts, conjunct, self.root))
     }
 
     /// Whether all tracks of the conjunct are weighed, as far as known.
@@ -260,5 +262,13 @@ impl Choice {
             return Ok(Vec::new(alloc));
         }
         members_of(alloc, interner, context)
+    }
+}
+
+/// Whether the formula has more than one free track, as far as known.
+fn has_others(facts: &Facts, id: FormulaId) -> bool {
+    match facts.get(id) {
+        Some(fact) => fact.tracks.len() > 1,
+        None => true,
     }
 }
