@@ -5,7 +5,7 @@
 
 It prints, with file and line, and ends with status 1 at any of these:
   a function with more than seven `?`         a check costs about the square of their number
-  more than one must-fail edit in a crate, or more than eight in all      others go to refusals/
+  more than one must-fail edit in a crate, or more than four in all       others go to refusals/
   a test function in a crate that others stand on       such a crate is proved twice
   a source of more than 500 lines, or a line of more than 160 columns
   a call that only a proof needs, marked by a comment `Only for its clause ..`
@@ -21,7 +21,7 @@ from pathlib import Path
 import refusals
 
 TOP = Path(__file__).resolve().parent.parent
-MOST_QUESTIONS, MOST_EDITS, MOST_LINES, MOST_COLUMNS = 7, 8, 500, 160
+MOST_QUESTIONS, MOST_EDITS, MOST_LINES, MOST_COLUMNS = 7, 4, 500, 160
 # Calls for a proof alone, by crate: what they tell is true of every value of the type, and no clause that the function
 # requires says it.
 STANDING_CALLS = {

@@ -65,7 +65,7 @@ fn opened_number(
     ensures kept { Extends interner.old interner.new }
 {
     let mut facts = Facts::of_parts(alloc, interner, id)?;
-    let is_wanted = has_stranger(facts, id, &of_list(alloc, weigh)?);
+    let is_wanted = has_stranger(&facts, id, &of_list(alloc, weigh)?);
     let spine = spine_of(alloc, interner, &facts, id, weigh, is_wanted)?;
     let made = joined_again(alloc, interner, &mut facts, spine)?;
     Ok(made)
