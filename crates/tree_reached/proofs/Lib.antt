@@ -1,4 +1,5 @@
 pub mod WaysLemmas
+pub mod CellsLemmas
 pub mod BeginsLemmas
 pub mod ChainLemmas
 pub mod ReachedLemmas
