@@ -4,7 +4,7 @@
 use Rattle.std.specs.Prelude.{ℕ, zero, suc, ◌==◌, max, List, [], ◌∷◌, ◌++◌, flat_map, map, fold, Option, Some, None, if◌then◌else◌}
 use Rattle.std.specs.Option.{option_map_or}
 use Rattle.ws2s_core.specs.declared.formula.Formula.{Formula}
-use Rattle.ws2s_core.specs.declared.formula.Formula.TheVariants.{Sub, Succ0, Succ1, Root, And, Ex2}
+use Rattle.ws2s_core.specs.declared.formula.Formula.TheVariants.{Sub, Succ0, Succ1, Root, And, Not, Ex2}
 use Rattle.ws2s_forms.specs.Forms.{track, or_list, imp, ex1, all1, slot}
 use Rattle.store_core.specs.declared.ids.TypeId.{TypeId}
 use Rattle.store_core.specs.declared.ids.FieldId.{FieldId}
@@ -103,6 +103,15 @@ are_led_by next types ways ty k zero from = are_led next types ways ty k from No
 are_led_by next types ways ty k (suc n) from =
     Ex2 (track next) (And (are_led_by (suc next) types ways ty (suc k) n (Some next)) (are_led (suc next) types ways ty k from (Some next)))
 
+-- no live cell of the type is below a position by 1; this follows from the first step, and keeps the sets of the others few
+abbrev pub none_by_one : ℕ → List TypeEntry → TypeId → Formula
+none_by_one next types ty =
+    Not (ex1 next (And (is_live (suc next) types ty next) (Ex2 (track (suc next)) (Succ1 (track (suc next)) (track next)))))
+
+-- each live cell of the type is led to by the ways
+abbrev pub are_led_to : ℕ → List TypeEntry → List Way → TypeId → Formula
+are_led_to next types ways ty = And (none_by_one next types ty) (are_led_by next types ways ty 0 (last_number ways) None)
+
 -- each live cell of the type is at one of its places, told by field
 abbrev pub reached_by_field : ℕ → List TypeEntry → List VarEntry → TypeId → Formula
-reached_by_field next types vars ty = are_led_by next types (ways types vars ty) ty 0 (last_number (ways types vars ty)) None
+reached_by_field next types vars ty = are_led_to next types (ways types vars ty) ty

@@ -6,7 +6,7 @@ ghost use Rattle.ws2s_core.specs.Satisfaction.{Same};
 
 use crate::ends::are_at_ends;
 use crate::replacing::replaced;
-use crate::steps::reached_by_field;
+use crate::steps::are_led_to;
 use crate::ways::{last_number, ways_to};
 use std::alloc::{AllocError, Global};
 use store_core::TypeId;
@@ -55,7 +55,7 @@ fn with_type(
         return Ok(formula);
     }
     let at_ends = are_at_ends(alloc, l, next, ty, ways.as_slice())?;
-    let by_field = reached_by_field(alloc, l, next, ty, ways.as_slice())?;
+    let by_field = are_led_to(alloc, l, next, ty, ways.as_slice())?;
     replaced(alloc, next, &formula, &at_ends, &by_field)
 }
 

@@ -190,8 +190,8 @@ fn step(
     bound(alloc, own, rest, led)
 }
 
-/// Each live cell of a type is led to by one of the ways, told step by step; the sets are on tracks from the next one on.
-pub(crate) fn reached_by_field(
+/// All steps, the sets of which are on tracks from the next one on.
+fn are_led_by(
     alloc: Global,
     l: &Layout<'_>,
     next: u32,
@@ -208,4 +208,34 @@ pub(crate) fn reached_by_field(
         formula = step(alloc, l, next, ty, left, ways, formula)?;
     }
     Ok(formula)
+}
+
+/// No live cell of a type is below a position by 1.
+fn none_by_one(alloc: Global, l: &Layout<'_>, next: u32, ty: TypeId) -> Result<Formula, AllocError>
+    ensures { IfOk result (λ formula. formula ≡ formulas.none_by_one next l.now.types ty) }
+{
+    let inner = later(next, 1)?;
+    let live = is_live(alloc, l, inner, ty, next)?;
+    let below = Formula::ex2(
+        alloc,
+        Track(inner),
+        Formula::Succ1(Track(inner), Track(next)),
+    )?;
+    let some = ex1(alloc, next, Formula::and(alloc, live, below)?)?;
+    Formula::not(alloc, some)
+}
+
+/// Each live cell of a type is led to by one of the ways, told step by step; tracks from the next one on are bound.
+pub(crate) fn are_led_to(
+    alloc: Global,
+    l: &Layout<'_>,
+    next: u32,
+    ty: TypeId,
+    ways: &[Way],
+) -> Result<Formula, AllocError>
+    ensures { IfOk result (λ formula. formula ≡ formulas.are_led_to next l.now.types ways.now ty) }
+{
+    let none = none_by_one(alloc, l, next, ty)?;
+    let led = are_led_by(alloc, l, next, ty, ways)?;
+    Formula::and(alloc, none, led)
 }

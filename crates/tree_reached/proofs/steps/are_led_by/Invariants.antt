@@ -1,7 +1,7 @@
 use Rattle.std.proofs.Common.{◌≡◌, ◌+◌, ◌-◌, ◌≤◌}
 use Rattle.tree_reached.specs.ByField.{last_number, are_led_by}
 use Rattle.tree_reached.specs.Going.{set_before}
-use Rattle.tree_reached.proofs.steps.reached_by_field.Given as goal
+use Rattle.tree_reached.proofs.steps.are_led_by.Given as goal
 
 -- the steps with numbers below `left` are still to be put around
 abbrev pub invariant-loop-left : goal.invariant-loop-left
