@@ -1,6 +1,7 @@
 //! The ways to the cells of a type.
 
 ghost use Rattle.std.specs.Prelude.{◌≡◌, ◌++◌, flat_map, IfOk, OnOk};
+ghost use Rattle.store_core.specs.Tables.{IsTypeTable};
 ghost use Rattle.tree_formula.specs.WellEncoded.{vars_in, fields_in, types_in};
 ghost use Rattle.tree_reached.specs.ByField as formulas;
 ghost use Rattle.tree_reached.specs.ByField.{ways_of_var, ways_of_field, ways_from};
@@ -91,7 +92,8 @@ fn push_ways_to_children(
     l: &Layout<'_>,
     ty: TypeId,
 ) -> Result<(), AllocError>
-    ensures { OnOk result (ways.new.items ≡ ways.old.items ++ flat_map (ways_from l.now.types ty) (types_in l.now.types)) }
+    ensures value { OnOk result (ways.new.items ≡ ways.old.items ++ flat_map (ways_from l.now.types ty) (types_in l.now.types)) }
+    ensures inside { IsTypeTable l.now.types }
 {
     for index in 0..l.types().types() {
         push_ways_from(ways, l, ty, TypeId(index))?;
@@ -101,7 +103,8 @@ fn push_ways_to_children(
 
 /// All ways to the cells of a type: to slots, and then to children.
 pub(crate) fn ways_to(alloc: Global, l: &Layout<'_>, ty: TypeId) -> Result<Vec<Way>, AllocError>
-    ensures { IfOk result (λ ways. ways.items ≡ formulas.ways l.now.types l.now.vars ty) }
+    ensures value { IfOk result (λ ways. ways.items ≡ formulas.ways l.now.types l.now.vars ty) }
+    ensures inside { OnOk result (IsTypeTable l.now.types) }
 {
     let mut ways = Vec::new(alloc);
     push_ways_to_slots(&mut ways, l, ty)?;
