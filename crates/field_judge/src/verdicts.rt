@@ -120,7 +120,16 @@ pub(crate) fn verdict_alone(
     let easier = by_fields(alloc, l, formula)?;
     let decider = Decider::with_first(alloc, guide, first)?;
     let mut decider = decider.used_once();
-    let verdict = verdict_on(alloc, formula, easier, known, passes, tracks, &mut decider, shelf);
+    let verdict = verdict_on(
+        alloc,
+        formula,
+        easier,
+        known,
+        passes,
+        tracks,
+        &mut decider,
+        shelf,
+    );
     decider.close(shelf);
     verdict
 }

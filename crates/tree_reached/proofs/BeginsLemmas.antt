@@ -249,7 +249,7 @@ module _ (types : List TypeEntry) (vars : List VarEntry) (owners : OwnersAreTher
         let each = law-all1 next (imp looked led) b agrees.finite in (
           (λ h p seen. (on p).0 ((law-imp looked led (with_position b next p) (at-finite p)).0 (each.0 h p) ((looked-means from p before_from).1 seen))),
           (λ h. each.1 (λ p. (law-imp looked led (with_position b next p) (at-finite p)).1 (λ holds.
-          (on p).1 (h p ((looked-means from p before_from).0 holds))))),
+              (on p).1 (h p ((looked-means from p before_from).0 holds))))),
         )
       where
         at-finite : (p : Position) → IsFinite (with_position b next p)

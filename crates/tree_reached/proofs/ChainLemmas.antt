@@ -29,28 +29,28 @@ use Rattle.tree_reached.proofs.BeginsLemmas.{AgreesOn-replace, StandsOn-agrees, 
 -- ---- the truth of what is decided
 
 truth : {P : Type 0} → P ⊎ (P → ⊥) → Bool
-truth (inl yes) = true
-truth (inr no) = false
+truth (inl p) = true
+truth (inr not_p) = false
 
 truth-yes : {P : Type 0} (d : P ⊎ (P → ⊥)) → IsTrue (truth d) → P
 unfolding truth
-truth-yes (inl yes) h = yes
-truth-yes (inr no) h = absurd (false≢true h)
+truth-yes (inl p) h = p
+truth-yes (inr not_p) h = absurd (false≢true h)
 
 truth-from : {P : Type 0} (d : P ⊎ (P → ⊥)) → P → IsTrue (truth d)
 unfolding truth
-truth-from (inl yes) p = refl
-truth-from (inr no) p = absurd (no p)
+truth-from (inl q) p = refl
+truth-from (inr not_p) p = absurd (not_p p)
 
 truth-no : {P : Type 0} (d : P ⊎ (P → ⊥)) → (P → ⊥) → truth d ≡ false
 unfolding truth
-truth-no (inl yes) none = absurd (none yes)
-truth-no (inr no) none = refl
+truth-no (inl p) none = absurd (none p)
+truth-no (inr not_p) none = refl
 
 both-decided : {P Q : Type 0} → P ⊎ (P → ⊥) → Q ⊎ (Q → ⊥) → (P × (Q → ⊥)) ⊎ ((P × (Q → ⊥)) → ⊥)
 both-decided (inl p) (inl q) = inr (λ h. h.1 q)
-both-decided (inl p) (inr no) = inl (p, no)
-both-decided (inr no) q = inr (λ h. no h.0)
+both-decided (inl p) (inr not_q) = inl (p, not_q)
+both-decided (inr not_p) q = inr (λ h. not_p h.0)
 
 -- ---- steps by 1 one after the other
 
@@ -247,13 +247,13 @@ module _ (types : List TypeEntry) (vars : List VarEntry) (owners : OwnersAreTher
           chosen-finite,
           (WSat-And rest step (replace b next chosen)).1 (
             (others (replace b next chosen) (inside chosen chosen-finite)).1 (λ r on.
-            let (seen, none) = (in-set r).0 on in
-            let led = h (r ++ letter from ∷ []) seen in
-            led-back types a ws k n led.more (letter from) r led.from led.within led.begin led.is none),
+                let (seen, none) = (in-set r).0 on in
+                let led = h (r ++ letter from ∷ []) seen in
+                led-back types a ws k n led.more (letter from) r led.from led.within led.begin led.is none),
             (one chosen chosen-finite).1 (λ p on.
-            let seen = (looked-same types a b ty next chosen from p before).0 on in
-            let led = h p seen in
-            led-by p seen led.more led.from led.begin led.is),
+                let seen = (looked-same types a b ty next chosen from p before).0 on in
+                let led = h p seen in
+                led-by p seen led.more led.from led.begin led.is),
           ),
         )
 
@@ -280,8 +280,8 @@ module _ (types : List TypeEntry) (vars : List VarEntry) (owners : OwnersAreTher
               | inr begin ↦ led-here types a ws k zero (letter from) p r is begin
             ]),
         (λ h. one.1 (λ p seen.
-        let led = h p seen in
-        led-alone types a ws k led.more b from p led.from led.within led.begin led.is)),
+            let led = h p seen in
+            led-alone types a ws k led.more b from p led.from led.within led.begin led.is)),
       )
   by-means (suc n) k next from b few before agrees =
       let own : next < suc next = omega arith in

@@ -164,15 +164,15 @@ by-field-means types vars next bound a ty owners few within finite =
     )
 
 -- as they are made, by the ways that are listed
-pub ends-by-field : (types : List TypeEntry) (vars : List VarEntry) (ty : TypeId) (ws : List Way) (next : ℕ) (old new : Formula) → IsTypeTable types →
-    track_count types vars ≤ next → ws ≡ ways types vars ty → old ≡ are_at_ends next types ty ws →
+pub ends-by-field : (types : List TypeEntry) (vars : List VarEntry) (ty : TypeId) (us ws : List Way) (next : ℕ) (old new : Formula) → IsTypeTable types →
+    track_count types vars ≤ next → us ≡ ways types vars ty → ws ≡ ways types vars ty → old ≡ are_at_ends next types ty us →
     new ≡ are_led_to next types ws ty → Same old new
-ends-by-field types vars ty ws next old new table few listed is_old is_new = record {
+ends-by-field types vars ty us ws next old new table few first second is_old is_new = record {
   satisfied = λ a finite.
       let old_is : old ≡ are_reached next types vars ty =
-      is_old ∙ ap (λ (us : List Way). are_at_ends next types ty us) listed ∙ sym (reached-ends types vars next ty) in
+      is_old ∙ ap (λ (us : List Way). are_at_ends next types ty us) first ∙ sym (reached-ends types vars next ty) in
       let new_is : new ≡ reached_by_field next types vars ty =
-      is_new ∙ ap (λ (us : List Way). are_led_to next types us ty) listed in
+      is_new ∙ ap (λ (us : List Way). are_led_to next types us ty) second in
       let same = by-field-means types vars next next a ty (owners-there types table) few few finite in (
         (λ h. subst (λ (f : Formula). WSat f a) (sym new_is) (same.1 (subst (λ (f : Formula). WSat f a) old_is h))),
         (λ h. subst (λ (f : Formula). WSat f a) (sym old_is) (same.0 (subst (λ (f : Formula). WSat f a) new_is h))),

@@ -34,7 +34,7 @@ map-flat : {X Y Z : Type 0} (g : Y → Z) (f : X → List Y) (h : X → List Z) 
     flat_map h xs ≡ map g (flat_map f xs)
 map-flat g f h each [] = refl
 map-flat {Z} g f h each (x ∷ xs) =
-    ap₂ (λ (as bs : List Z). as ++ bs) (each x) (map-flat g f h each xs) ∙ sym (map-append g (f x) (flat_map f xs))
+    ap₂ (λ (ys zs : List Z). ys ++ zs) (each x) (map-flat g f h each xs) ∙ sym (map-append g (f x) (flat_map f xs))
 
 cond-map : {Y Z : Type 0} (g : Y → Z) (b : Bool) (y : Y) → cond b (g y ∷ []) [] ≡ map g (cond b (y ∷ []) [])
 cond-map g true y = refl

@@ -6,12 +6,12 @@
 //! finite assignments satisfy alike. Whoever decides a formula with the formula of trees in front may decide it so.
 #![tactic(auto)]
 
-mod by_fields;
 mod cells;
 mod ends;
 pub mod laws;
 mod replacing;
 mod steps;
 mod ways;
+mod wide_types;
 
-pub use by_fields::{MANY_STEPS, by_fields};
+pub use wide_types::{MANY_STEPS, by_fields};

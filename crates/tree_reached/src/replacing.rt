@@ -24,10 +24,7 @@ fn are_equal(alloc: Global, one: &Formula, other: &Formula) -> Result<bool, Allo
 }
 
 /// The conjuncts of a formula from the left, the first one on top, which is no conjunction.
-fn conjuncts_of<'a>(
-    alloc: Global,
-    formula: &'a Formula,
-) -> Result<Stack<&'a Formula>, AllocError>
+fn conjuncts_of<'a>(alloc: Global, formula: &'a Formula) -> Result<Stack<&'a Formula>, AllocError>
     ensures { IfOk result (λ conjuncts. AreConjunctsOf formula.now conjuncts) }
 {
     let mut first = formula;

@@ -38,11 +38,7 @@ fn push_way_to_slot(
 }
 
 /// The ways to the slots of the data variables of a type.
-fn push_ways_to_slots(
-    ways: &mut Vec<Way>,
-    l: &Layout<'_>,
-    ty: TypeId,
-) -> Result<(), AllocError>
+fn push_ways_to_slots(ways: &mut Vec<Way>, l: &Layout<'_>, ty: TypeId) -> Result<(), AllocError>
     ensures { OnOk result (ways.new.items ≡ ways.old.items ++ flat_map (ways_of_var l.now.vars ty) (vars_in l.now.vars)) }
 {
     for index in 0..l.vars().vars() {
@@ -87,11 +83,7 @@ fn push_ways_from(
 }
 
 /// The same of all types.
-fn push_ways_to_children(
-    ways: &mut Vec<Way>,
-    l: &Layout<'_>,
-    ty: TypeId,
-) -> Result<(), AllocError>
+fn push_ways_to_children(ways: &mut Vec<Way>, l: &Layout<'_>, ty: TypeId) -> Result<(), AllocError>
     ensures value { OnOk result (ways.new.items ≡ ways.old.items ++ flat_map (ways_from l.now.types ty) (types_in l.now.types)) }
     ensures inside { IsTypeTable l.now.types }
 {
