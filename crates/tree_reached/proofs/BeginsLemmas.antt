@@ -1,14 +1,13 @@
 -- Where ways begin, and what one step says.
 use Rattle.std.proofs.Common.{◌≡◌, ◌≢◌, ℕ, suc, ◌<◌, ◌≤◌, ◌↔◌, ◌⊎◌, inl, inr, Bool, true, false, cond, ◌==◌, IsTrue, List, [], ◌∷◌, ◌++◌, flat_map}
 use Rattle.std.proofs.Common.{Option, Some, None, Contains, refl, sym, ap, ◌∙◌, subst, arith}
-use Rattle.std.specs.Option.{option_map_or}
 use Rattle.std.proofs.lemmas.Bool.{eqb-true, eq-eqb}
 use Rattle.std.proofs.lemmas.List.Elements.{Contains-append_left, Contains-append_right, Contains-append_cases}
 use Rattle.gta_theory.specs.Assignments.{Position, PositionSet, Assignment, IsFinite, IsFiniteSet, IsOnly, replace}
 use Rattle.gta_theory.proofs.AssignmentsLemmas.{replace-same, replace-other}
 use Rattle.gta_theory.proofs.ListsLemmas.{Contains-first, Contains-none, Contains-flat_map}
 use Rattle.ws2s_core.specs.declared.formula.Formula.{Formula}
-use Rattle.ws2s_core.specs.declared.formula.Formula.TheVariants.{Sub, Root, And}
+use Rattle.ws2s_core.specs.declared.formula.Formula.TheVariants.{Sub, And}
 use Rattle.ws2s_core.specs.Satisfaction.{WSat}
 use Rattle.ws2s_core.proofs.SatisfactionLemmas.{WSat-And, WSat-Root, WSat-Succ0, WSat-Succ1}
 use Rattle.ws2s_theory.proofs.ContextsLemmas.{IsFinite-replace}
@@ -20,7 +19,6 @@ use Rattle.store_core.specs.declared.ids.TypeId.{TypeId}
 use Rattle.store_core.specs.declared.ids.FieldId.{FieldId}
 use Rattle.store_core.specs.Tables.{TypeEntry, FieldEntry, VarEntry, field_at}
 use Rattle.tree_encode.specs.Tracks.{track_count}
-use Rattle.tree_formula.specs.WellEncoded.{has}
 use Rattle.tree_store.specs.Shapes.{IsCellIn, HasFieldAt}
 use Rattle.tree_store.specs.Premises.{OwnersAreThere}
 use Rattle.tree_store.proofs.ListsLemmas.{flat_map-inside, cond-inside, Contains-one}

@@ -1,7 +1,6 @@
 -- Before all events, and on all cells, live cells are those on the tracks.
 use Rattle.std.proofs.Common.{◌≡◌, ℕ, Bool, List, [], Option, None, reverse, ap₂}
 use Rattle.ws2s_core.specs.declared.track.Track.{Track}
-use Rattle.ws2s_core.specs.declared.formula.Formula.{Formula}
 use Rattle.store_core.specs.declared.ids.TypeId.{TypeId}
 use Rattle.store_core.specs.declared.ids.FieldId.{FieldId}
 use Rattle.store_core.specs.Tables.{TypeEntry, VarEntry}

@@ -18,7 +18,7 @@ use Rattle.store_core.specs.declared.ids.TypeId.{TypeId}
 use Rattle.store_core.specs.Tables.{TypeEntry, VarEntry}
 use Rattle.store_core.proofs.FittingLemmas.{IsSomeAnd-at}
 use Rattle.tree_encode.specs.Tracks.{of_variant, track_count, variant_track}
-use Rattle.tree_store.specs.Shapes.{variant_in, IsCellIn}
+use Rattle.tree_store.specs.Shapes.{variant_in}
 use Rattle.tree_store.specs.Premises.{OwnersAreThere}
 use Rattle.tree_store.proofs.TablesLemmas.{track-few}
 use Rattle.tree_reached.specs.declared.ways.Way.{Way}

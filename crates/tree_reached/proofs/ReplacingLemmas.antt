@@ -1,9 +1,8 @@
 -- A conjunct in the place of another that means the same.
-use Rattle.std.proofs.Common.{◌≡◌, ℕ, ◌↔◌, List, [], ◌∷◌, ◌++◌, fold, map, sym, ap, ◌∙◌, subst, append_assoc, append-nil}
+use Rattle.std.proofs.Common.{◌≡◌, ℕ, ◌↔◌, List, [], ◌∷◌, ◌++◌, sym, subst}
 use Rattle.std.specs.Borrow.{Bor}
 use Rattle.gta_theory.specs.Assignments.{Assignment, IsFinite}
 use Rattle.ws2s_core.specs.declared.formula.Formula.{Formula}
-use Rattle.ws2s_core.specs.declared.formula.Formula.TheVariants.{And}
 use Rattle.ws2s_core.specs.Satisfaction.{WSat, Same}
 use Rattle.ws2s_forms.specs.Forms.{and_list}
 use Rattle.ws2s_forms.proofs.ConnectivesLemmas.{EachSat, EachSat-append, WSat-and_list}

@@ -1,13 +1,16 @@
-use Rattle.std.proofs.Common.{◌≡◌, rules}
+use Rattle.std.proofs.Common.{◌≡◌, List, sym, subst}
 use Rattle.std.proofs.lemmas.Result.{IfOk-weaker}
 use Rattle.ws2s_core.specs.declared.formula.Formula.{Formula}
 use Rattle.ws2s_core.specs.Satisfaction.{Same}
 use Rattle.ws2s_forms.specs.Forms.{and_list}
-use Rattle.tree_reached.proofs.ReplacingLemmas.{going-start, going-next, going-end}
+use Rattle.tree_reached.specs.Conjuncts.{lent}
+use Rattle.tree_reached.proofs.ReplacingLemmas.{GoesOn, going-start, going-next, going-end}
 use Rattle.tree_reached.proofs.replacing.replaced.Goals as goal
 
 pub loop-conjunct-init : goal.loop-conjunct-init
-loop-conjunct-init c = going-start c.args.formula.now c.in_ok-conjuncts.conjuncts c.in_ok-conjuncts.ensures
+loop-conjunct-init c =
+    subst (λ (made : List Formula). GoesOn c.args.formula.now made (lent c.in_ok-conjuncts.conjuncts)) (sym c.new-parts.ensures.items)
+    (going-start c.args.formula.now c.in_ok-conjuncts.conjuncts c.in_ok-conjuncts.ensures)
 
 pub loop-conjunct-preserved : goal.loop-conjunct-preserved
 loop-conjunct-preserved c =
