@@ -24,6 +24,10 @@ same-joined formula known joined easier follows is same = record {
       );
 }
 
+-- what follows from a formula follows from one that means the same
+pub follows-same : (formula easier known : Formula) → FollowsFrom formula known → Same formula easier → FollowsFrom easier known
+follows-same formula easier known follows same a finite sat = follows a finite ((same.satisfied a finite).1 sat)
+
 -- what holds of trees follows from the formula of a field
 pub follows-field : (types : List TypeEntry) (vars : List VarEntry) (f : FieldId) (formula known : Formula) → HoldsOfTrees types vars known →
     formula ≡ field_formula types vars f → FollowsFrom formula known

@@ -9,7 +9,6 @@ ghost use Rattle.field_judge.specs.OneEach.{type_vars};
 ghost use Rattle.field_judge.specs.Judging.{HasFieldPeak, IsLightestFork, IsLeastFork, IsFieldJudged};
 
 use crate::forks::first_fork;
-use crate::guides::first_guide;
 use crate::variables::one_each;
 use crate::verdicts::verdict_alone;
 use crate::weighing::weighed;
@@ -70,14 +69,10 @@ fn judge_laid_out(
     ensures tables { HasNoTables shelf.new }
     ensures same_limit { limit_of shelf.new ≡ limit_of shelf.old }
 {
-    let guide = l.guide(alloc)?;
-    let first = first_guide(alloc, l)?;
     let tracks = weighed(alloc, l)?;
     let formula = field_formula(alloc, l, f)?;
     let known = cells_apart(alloc, l)?;
-    match verdict_alone(
-        alloc, guide, first, &formula, &known, passes, &tracks, shelf,
-    )? {
+    match verdict_alone(alloc, l, &formula, &known, passes, &tracks, shelf)? {
         Verdict::None => Ok(FieldJudged::Functional),
         Verdict::Witness(tree, _) => {
             let (store, cell) = fork_of(alloc, l, f, &tree)?;

@@ -15,12 +15,13 @@ use pred_transform::triple_formula;
 use std::alloc::{AllocError, Global};
 use store_exec::Triple;
 use tree_encode::Layout;
+use tree_reached::by_fields;
 use ws2s_core::{Formula, TrackList};
 use ws2s_decide::{Decider, Verdict};
 use ws2s_pass::PassList;
 
-/// The verdict on the formula of the site with this number, counted from 0, by what holds of all trees too. A site that isn't there
-/// has no formula, so nothing satisfies it.
+/// The verdict on the formula of the site with this number, counted from 0, by what holds of all trees too, and with types of many
+/// fields told by field. A site that isn't there has no formula, so nothing satisfies it.
 ///
 /// # Errors
 ///
@@ -47,7 +48,10 @@ pub(crate) fn verdict_at(
 {
     match triple_formula(alloc, l, t, site)? {
         Some(formula) => {
-            let verdict = verdict_on(alloc, &formula, of_trees, passes, tracks, decider, shelf)?;
+            let easier = by_fields(alloc, l, &formula)?;
+            let verdict = verdict_on(
+                alloc, &formula, easier, of_trees, passes, tracks, decider, shelf,
+            )?;
             Ok(verdict)
         }
         None => Ok(Verdict::None),

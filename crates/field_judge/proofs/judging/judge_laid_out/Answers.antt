@@ -1,4 +1,4 @@
-use Rattle.std.proofs.Common.{◌∙◌, List, [], Ok, sym, ap, ap₂, subst}
+use Rattle.std.proofs.Common.{List, [], Ok, sym, ap, ap₂, subst}
 use Rattle.gta_theory.specs.Guides.{Spaces}
 use Rattle.ws2s_core.specs.declared.formula.Formula.{Formula}
 use Rattle.ws2s_theory.specs.Peaks.{HasPeak}
@@ -37,6 +37,6 @@ returns-clause-limit g c = λ at_limit p peak.
     let types = c.args.l.now.types in
     c.in_ok-verdict_alone.ensures.limit (ap (λ (v : Verdict). Ok v) c.in-Limit.is) p
     (subst (λ (guide : Spaces). HasPeak guide c.in_ok-formula.formula p)
-    (sym (c.in_ok-guide.ensures ∙ ap₂ (λ (vs : List VarEntry) (ss : List VariantId). guide_of types vs ss) c.requires.vars c.requires.spares))
+    (sym (ap₂ (λ (vs : List VarEntry) (ss : List VariantId). guide_of types vs ss) c.requires.vars c.requires.spares))
     (subst (λ (f : Formula). HasPeak (guide_of types (type_vars types) []) f p)
     (sym (formula-is types c.args.l.now.vars c.args.f c.in_ok-formula.formula c.requires.vars c.in_ok-formula.ensures.value)) peak))

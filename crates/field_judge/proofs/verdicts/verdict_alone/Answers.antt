@@ -11,4 +11,5 @@ verdict_on-verdict-requires-clause-kept g c =
 pub returns-clause-limit : goal.returns-clause-limit
 returns-clause-limit g c = λ at_limit p peak.
     c.verdict_on-verdict.ensures.limit at_limit p
-    (subst (λ (g : Spaces). HasPeak g c.args.formula.now p) (sym (c.used_once-decider.ensures.guide ∙ c.in_ok-decider.ensures.guide)) peak)
+    (subst (λ (g : Spaces). HasPeak g c.args.formula.now p)
+    (sym (c.used_once-decider.ensures.guide ∙ c.in_ok-decider.ensures.guide ∙ c.in_ok-guide.ensures)) peak)

@@ -1,0 +1,4 @@
+pub mod ByField
+pub mod Conjuncts
+pub mod Going
+pub mod Worked
