@@ -29,13 +29,12 @@ impl Model for Numbering {
 }
 
 impl Numbering {
-    /// No numbers yet. Takes no memory.
-    pub(crate) fn new(alloc: Global) -> Numbering
-        ensures { result ≡ [] }
+    /// No numbers yet, with room for so many.
+    pub(crate) fn new(alloc: Global, many: usize) -> Result<Numbering, AllocError>
+        ensures { IfOk result (λ numbers. numbers ≡ []) }
     {
-        Numbering {
-            pairs: IndexSet::new(alloc),
-        }
+        let pairs = IndexSet::with_capacity(alloc, many)?;
+        Ok(Numbering { pairs })
     }
 
     pub(crate) fn as_slice(&self) -> &[(u32, u32)]
