@@ -73,7 +73,7 @@ map-each f h (x ∷ xs) same =
 
 map-at : (f h : ℕ → NodeRef) (xs : List ℕ) (k : ℕ) → k < length xs → map f xs ≡ map h xs → f (slice_index xs k) ≡ h (slice_index xs k)
 map-at f h [] k inside same = absurd (omega arith)
-map-at f h (x ∷ xs) zero inside same = let e : f x ∷ map f xs ≡ h x ∷ map h xs = same in cc
+map-at f h (x ∷ xs) zero inside same = let e : f x ∷ map f xs ≡ h x ∷ map h xs = same in let r : f x ≡ h x = cc in r
 map-at f h (x ∷ xs) (suc k) inside same =
     map-at f h xs k (omega arith) (let e : f x ∷ map f xs ≡ h x ∷ map h xs = same in cc)
 

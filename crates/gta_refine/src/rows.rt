@@ -119,11 +119,13 @@ fn find(
     let mut link = firsts.buckets[bucket];
     while link != 0 {
         let place = link - 1;
-        let is_same = have_same_row(space, side, numbers, firsts.states[place], state, beside);
+        let other = firsts.states[place];
+        let is_same = have_same_row(space, side, numbers, other, state, beside);
         if is_same {
             return Some(place);
         }
-        link = firsts.chain[place];
+        let next = firsts.chain[place];
+        link = next;
     }
     None
 }
@@ -151,7 +153,8 @@ fn first_with(
 {
     let bucket = bucket_for(space, side, numbers, state, beside, firsts.buckets.len());
     if let Some(place) = find(firsts, space, side, numbers, state, beside, bucket) {
-        return Ok(firsts.states[place]);
+        let first = firsts.states[place];
+        return Ok(first);
     }
     firsts.put(state, bucket)?;
     Ok(state)

@@ -1,13 +1,16 @@
 -- The kind has a row, or one is made.
 use Rattle.std.proofs.Common.{◌≡◌, ℕ, suc, ◌+◌, ◌-◌, List, [], ◌∷◌, ◌++◌, sym, ◌∙◌, ap, subst, arith}
 use Rattle.std.specs.Prelude.{slice_index, slice_set}
+use Rattle.std.proofs.lemmas.List.{get_or_read}
 use Rattle.gta_minimise.specs.Rows.{IsRowStep, known, makes}
 use Rattle.gta_minimise.proofs.rows.row_of.Goals as goal
 
 pub returns-then-link-gt0 : goal.returns-then-link-gt0
 returns-then-link-gt0 c =
     let links = c.args.links.now.items in
-    let row : ℕ = slice_index links c.args.kind - 1 in
+    let link = c.index-link.result.now in
+    let row : ℕ = link - 1 in
+    let is = get_or_read links c.args.kind link c.requires.inside c.index-link.ensures 0 in
     let there : slice_index links c.args.kind ≡ suc row = (let t = c.if-link-gt0.true in omega arith) in
     known row there
 

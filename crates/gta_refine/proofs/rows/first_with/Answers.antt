@@ -1,6 +1,7 @@
 -- The state of an equal row, or one state more.
-use Rattle.std.proofs.Common.{◌≡◌, ◌+◌, ◌<◌, ℕ, List, [], ◌∷◌, ◌++◌, length, vec_len, refl, sym, ◌∙◌, ap, subst, arith, length-append}
+use Rattle.std.proofs.Common.{◌≡◌, ◌+◌, ◌<◌, ℕ, List, [], ◌∷◌, ◌++◌, length, vec_len, sym, ◌∙◌, ap, subst, arith, length-append}
 use Rattle.std.specs.Prelude.{slice_index, slice_set}
+use Rattle.std.proofs.lemmas.List.{get_or_read}
 use Rattle.gta_refine.specs.Rows.{row_of}
 use Rattle.gta_refine.specs.Firsts.{bucket_of, AreFirsts, HasFirst, GrowBy}
 use Rattle.gta_refine.proofs.FirstsLemmas.{AreFirsts-put, GrowBy-none, GrowBy-push, HasFirst-push}
@@ -33,12 +34,12 @@ put-requires c =
     omega arith
 
 pub returns-in-Some-clause-first : goal.returns-in-Some-clause-first
-returns-in-Some-clause-first c = record {
-  place = c.in-Some.place;
-  within = c.in-Some.ensures.within;
-  is = refl;
-  same = c.in-Some.ensures.found;
-}
+returns-in-Some-clause-first c =
+    let states = c.args.firsts.now.states.items in
+    let place = c.in-Some.place in
+    let rows = row_of c.args.space.now c.args.side c.args.numbers.now c.args.beside.now in
+    let is = sym (get_or_read states place c.index-first.result.now c.in-Some.ensures.within c.index-first.ensures 0) in
+    record { place = place; within = c.in-Some.ensures.within; is = is; same = sym (ap rows is) ∙ c.in-Some.ensures.found }
 
 pub returns-in-Some-clause-grow : goal.returns-in-Some-clause-grow
 returns-in-Some-clause-grow c = GrowBy-none c.args.state c.args.firsts.now.states.items
