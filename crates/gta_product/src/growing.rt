@@ -17,7 +17,7 @@ use crate::numbering::Numbering;
 use crate::tables::Tables;
 use bdd_nodes::{RefList, Shelf};
 use bdd_walk::{Joiner, NoMemory, Stop};
-use gta_core::Auto;
+use gta_core::{Auto, Part};
 use plain_data::Items;
 use std::alloc::Global;
 use ws2s_core::Guide;
@@ -65,13 +65,21 @@ struct Sizes {
     columns: usize,
 }
 
+/// How many rows a part has.
+fn rows_of(part: &Part) -> usize {
+    if part.width == 0 {
+        return 0;
+    }
+    part.cells.len() / part.width as usize
+}
+
 /// The sizes of a space; of an unknown one all are 0.
 fn sizes(a: &Auto, space: u32) -> Sizes {
     match a.parts().get(space as usize) {
         Some(part) => Sizes {
             lefts: part.rows.len(),
             rights: part.columns.len(),
-            rows: part.cells.len() / part.width.max(1) as usize,
+            rows: rows_of(part),
             columns: part.width as usize,
         },
         None => Sizes {
