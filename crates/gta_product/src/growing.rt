@@ -298,7 +298,12 @@ fn look_at(
         .look(lefts, first.rows.as_slice(), second.rows.as_slice())?;
     let rights = numbers[children.1 as usize].as_slice();
     growth.columns.look(rights, first.columns.as_slice(), second.columns.as_slice())?;
-    add_rows(alloc, growth.rows.ones.len(), growth.columns.ones.len(), &mut growth.cells)?;
+    add_rows(
+        alloc,
+        growth.rows.ones.len(),
+        growth.columns.ones.len(),
+        &mut growth.cells,
+    )?;
     Ok(())
 }
 

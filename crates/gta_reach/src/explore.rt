@@ -285,7 +285,7 @@ fn unmarked(alloc: Global, many: usize) -> Result<Items<bool>, AllocError>
 fn unmarked_nodes(alloc: Global, form: &Form) -> Result<Vec<Items<bool>>, AllocError>
     ensures { IfOk result (λ nodes. AreClear nodes.items) }
 {
-    let mut nodes = Vec::with_capacity(alloc, form.spaces.len())?;
+    let mut nodes = Vec::new(alloc);
     for space in form.spaces.as_slice() {
         nodes.push(unmarked(alloc, space.listing.nodes.len())?)?;
     }
@@ -322,10 +322,11 @@ fn initial_waiting(alloc: Global, form: &Form) -> Result<Stack<Waiting>, AllocEr
 fn keep_none(alloc: Global, space: &FormSpace, side: Side) -> Result<Kept, AllocError>
     ensures { IfOk result KeepsNone }
 {
-    let many = above(kinds_of(space, side));
-    let kinds = unmarked(alloc, many)?;
-    let states = Items::from_vec(Vec::with_capacity(alloc, many)?);
-    Ok(Kept { kinds, states })
+    let kinds = unmarked(alloc, above(kinds_of(space, side)))?;
+    Ok(Kept {
+        kinds,
+        states: Items::new(alloc),
+    })
 }
 
 /// No child state is kept in any space.
@@ -333,7 +334,7 @@ fn keep_none_each(alloc: Global, form: &Form, side: Side) -> Result<Vec<Kept>, A
     ensures many { IfOk result (λ kept. vec_len kept ≡ length form.now.spaces) }
     ensures none { IfOk result (λ kept. AllKeepNone kept.items) }
 {
-    let mut kept = Vec::with_capacity(alloc, form.spaces.len())?;
+    let mut kept = Vec::new(alloc);
     for s in 0..form.spaces.len() {
         kept.push(keep_none(alloc, form.space(s), side)?)?;
     }

@@ -26,7 +26,7 @@ fn initial_states(alloc: Global, form: &Form) -> Result<Vec<Items<bool>>, AllocE
     requires { IsForm form.now }
     ensures { IfOk result (λ reached. AreGenerated form.now reached.items) }
 {
-    let mut reached = Vec::with_capacity(alloc, form.spaces.len())?;
+    let mut reached = Vec::new(alloc);
     for space in form.spaces.as_slice() {
         reached.push(only(alloc, space.states, space.initial)?)?;
     }

@@ -30,8 +30,8 @@ pub IsHashed-more : (space : FormSpace) (side : Side) (numbers : List NodeRef) (
     IsHashed space side numbers own beside (below + 1) next
 IsHashed-more space side numbers own beside below hash number next so_far inside is_number is_next =
     let more : hash_from hash (row_of space side numbers (drop below beside) own)
-        ≡ hash_from (hash_more hash (number_at numbers (cell_at space side own (slice_index beside below))))
-        (row_of space side numbers (drop (below + 1) beside) own) =
+    ≡ hash_from (hash_more hash (number_at numbers (cell_at space side own (slice_index beside below))))
+    (row_of space side numbers (drop (below + 1) beside) own) =
     at_drop_more (λ (others : List ℕ). hash_from hash (row_of space side numbers others own)) beside below 0 inside in
     ap (λ (h : ℕ). hash_from h (row_of space side numbers (drop (below + 1) beside) own)) (is_next ∙ ap (hash_more hash) is_number)
     ∙ sym more ∙ so_far

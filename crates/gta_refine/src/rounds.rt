@@ -456,13 +456,6 @@ pub fn refine(alloc: Global, form: &Form) -> Result<SpaceClassesList, AllocError
     let choices = all_choices(alloc, form, &spaces)?;
     let mut looked = vec![in alloc; 1; spaces.len()]?;
     let mut shelf = first_shelf(alloc)?;
-    refine_fully(
-        alloc,
-        form,
-        &choices,
-        &mut looked,
-        &mut spaces,
-        &mut shelf,
-    )?;
+    refine_fully(alloc, form, &choices, &mut looked, &mut spaces, &mut shelf)?;
     Ok(Items::from_vec(spaces))
 }

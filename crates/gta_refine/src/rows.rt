@@ -24,13 +24,7 @@ fn number_of(space: &FormSpace, side: Side, numbers: &[NodeRef], own: u32, besid
 }
 
 /// The hash of the row of a state: of the numbers of its roots with those beside it.
-fn hash_of(
-    space: &FormSpace,
-    side: Side,
-    numbers: &[NodeRef],
-    own: u32,
-    beside: &[u32],
-) -> u64
+fn hash_of(space: &FormSpace, side: Side, numbers: &[NodeRef], own: u32, beside: &[u32]) -> u64
     requires roots { (other : ℕ) → IsAmong beside.now other → HasRootAt space.now side own other }
     requires many { length numbers.now ≡ length space.now.listing.roots }
     ensures { result ≡ hash_from 0 (row_of space.now side numbers.now beside.now own) }

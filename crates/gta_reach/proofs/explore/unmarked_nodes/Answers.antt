@@ -7,7 +7,7 @@ use Rattle.gta_reach.proofs.ExploreLemmas.{AreClear-none, AreClear-push}
 use Rattle.gta_reach.proofs.explore.unmarked_nodes.Goals as goal
 
 pub loop-space-init : goal.loop-space-init
-loop-space-init c = AreClear-none c.in_ok-nodes.nodes.items c.in_ok-nodes.ensures.items
+loop-space-init c = AreClear-none c.new-nodes.result.items c.new-nodes.ensures.items
 
 pub loop-space-preserved : goal.loop-space-preserved
 loop-space-preserved c =

@@ -22,8 +22,7 @@ loop-state-init c =
     let v = c.in_ok-ids.ids.ok.0 in
     let k = ap (λ (xs : List ℕ). slice_index xs i) c.kinds_of-kinds.ensures in
     omega arith)
-    (subst (λ (n : ℕ). AreFirsts rows n firsts.states.items firsts.buckets.items firsts.chain.items) c.len.ensures
-    (c.in_ok-firsts.ensures.first rows))
+    (c.in_ok-firsts.ensures.first rows)
     c.in_ok-firsts.ensures.none
 
 pub bounds-kinds-state : goal.bounds-kinds-state
