@@ -29,12 +29,13 @@ impl Model for Numbering {
 }
 
 impl Numbering {
-    /// No numbers yet, with room for so many.
-    pub(crate) fn new(alloc: Global, many: usize) -> Result<Numbering, AllocError>
-        ensures { IfOk result (λ numbers. numbers ≡ []) }
+    /// No numbers yet. Takes no memory.
+    pub(crate) fn new(alloc: Global) -> Numbering
+        ensures { result ≡ [] }
     {
-        let pairs = IndexSet::with_capacity(alloc, many)?;
-        Ok(Numbering { pairs })
+        Numbering {
+            pairs: IndexSet::new(alloc),
+        }
     }
 
     pub(crate) fn as_slice(&self) -> &[(u32, u32)]

@@ -104,7 +104,7 @@ fn settle(
 {
     let mut numbers = start(alloc, g, a, b)?;
     let mut joiners = joiners(alloc, g)?;
-    let mut growths = growths(alloc, g, a, b)?;
+    let mut growths = growths(alloc, g)?;
     grow(
         alloc,
         g,
@@ -131,9 +131,9 @@ fn start(alloc: Global, g: &Guide, a: &Auto, b: &Auto) -> Result<Vec<Numbering>,
         AreSpaces g.now (pairs (automaton_of shelf a.now) (automaton_of shelf b.now)) spaces.items) }
     ensures guide { IsGuide g.now }
 {
-    let mut spaces = Vec::with_capacity(alloc, g.spaces() as usize)?;
+    let mut spaces = Vec::new(alloc);
     for space in 0..g.spaces() {
-        let mut numbers = Numbering::new(alloc, states(a, space).max(states(b, space)))?;
+        let mut numbers = Numbering::new(alloc);
         numbers.number((initial(a, space), initial(b, space)))?;
         spaces.push(numbers)?;
     }
@@ -150,20 +150,12 @@ fn initial(a: &Auto, space: u32) -> u32
     }
 }
 
-/// How many states a space has; 0 for an unknown one.
-fn states(a: &Auto, space: u32) -> usize {
-    match a.parts().get(space as usize) {
-        Some(part) => part.states as usize,
-        None => 0,
-    }
-}
-
 /// A joiner for each space.
 fn joiners(alloc: Global, g: &Guide) -> Result<Vec<Joiner>, NoMemory>
     ensures { IfOk result (λ joiners. (shelf : Contents) (spaces : List (List (ℕ × ℕ))) → length spaces ≡ length g.now →
         FitAll shelf joiners.items spaces) }
 {
-    let mut joiners = Vec::with_capacity(alloc, g.spaces() as usize)?;
+    let mut joiners = Vec::new(alloc);
     for _space in 0..g.spaces() {
         joiners.push(Joiner::new(alloc))?;
     }
@@ -174,7 +166,7 @@ fn joiners(alloc: Global, g: &Guide) -> Result<Vec<Joiner>, NoMemory>
 fn accepting(alloc: Global, a: &Auto, b: &Auto, pairs: &[(u32, u32)]) -> Result<BoolList, NoMemory>
     ensures { IfOk result (λ flags. flags ≡ map (λ pair. is_accepting a.now pair.0 && is_accepting b.now pair.1) pairs.now) }
 {
-    let mut accepting = BoolList::from_vec(Vec::with_capacity(alloc, pairs.len())?);
+    let mut accepting = BoolList::new(alloc);
     for pair in pairs {
         accepting.push(are_accepting(a, b, *pair))?;
     }
@@ -289,7 +281,7 @@ fn count_up(alloc: Global, many: usize) -> Result<Items<u32>, NoMemory>
     if many > u32::MAX as usize {
         return Err(AllocError);
     }
-    let mut numbers = Items::from_vec(Vec::with_capacity(alloc, many)?);
+    let mut numbers = Items::new(alloc);
     for number in 0..many as u32 {
         numbers.push(number)?;
     }
