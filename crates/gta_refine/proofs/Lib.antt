@@ -1,10 +1,12 @@
 pub mod NumbersLemmas
+pub mod FirstsLemmas
 pub mod RowsLemmas
 pub mod IdsLemmas
 pub mod RefineLemmas
 pub mod RoomLemmas
 pub mod PigeonLemmas
 pub mod FinerLemmas
+pub mod ChoicesLemmas
 pub mod SplitLemmas
 pub mod ClimbLemmas
 pub mod UsesLemmas

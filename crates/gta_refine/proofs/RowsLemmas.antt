@@ -1,11 +1,9 @@
 -- Rows of numbers.
-use Rattle.std.proofs.Common.{◌≡◌, ℕ, ◌+◌, ◌<◌, Bool, true, false, List, [], ◌∷◌, length, map, Some, None, inl, inr}
-use Rattle.std.proofs.Common.{sym, ◌∙◌, ap, refl, arith}
-use Rattle.std.specs.Prelude.{slice_get, slice_index, slice_set, ◌&&◌}
-use Rattle.std.specs.Cmp.Lexicographic.{pointwise}
-use Rattle.std.specs.HashMap.{Updates}
-use Rattle.std.proofs.lemmas.List.{get_or-set_same, get_or-set_other, length-set}
-use Rattle.std.proofs.lemmas.Bool.{cases_Bool, cases_lt, cases_eq, eqb-true, false≢true}
+use Rattle.std.proofs.Common.{◌≡◌, ℕ, suc, zero, ◌+◌, ◌<◌, List, [], ◌∷◌, length, map, drop, Some, inl, inr}
+use Rattle.std.proofs.Common.{sym, ◌∙◌, ap, refl, subst, arith}
+use Rattle.std.specs.Prelude.{slice_get, slice_index, slice_set}
+use Rattle.std.proofs.lemmas.List.{get_or-set_same, get_or-set_other, length-set, at_drop_more, at_drop_all}
+use Rattle.std.proofs.lemmas.Bool.{cases_lt, cases_eq}
 use Rattle.std.proofs.lemmas.Option.{slice_get_within}
 use Rattle.bdd_nodes.specs.declared.node_ref.NodeRef.{NodeRef}
 use Rattle.gta_reach.specs.declared.form.FormSpace.{FormSpace}
@@ -13,69 +11,88 @@ use Rattle.gta_reach.specs.declared.sides.Side.{Side}
 use Rattle.gta_reach.specs.declared.sides.Side.TheVariants.{Left, Right}
 use Rattle.gta_classes.specs.Chosen.{IsAmong}
 use Rattle.gta_refine.specs.Numbered.{number_at}
-use Rattle.gta_refine.specs.Firsts.{Row, Firsts, same_ref, first_of, AreFirsts, KeepsFirsts}
+use Rattle.gta_refine.specs.Firsts.{hash_more, hash_from, AreFirsts, HasFirst, GrowBy}
 use Rattle.gta_refine.specs.Rows.{row_of, id_of, AreIds}
 use Rattle.gta_reach.specs.Sides.{kinds_in, cell_at}
 use Rattle.gta_reach.proofs.ReachLemmas.{cell-same}
+use Rattle.gta_refine.proofs.FirstsLemmas.{HasFirst-grown, HasFirst-one}
 
-same_word : (a b : NodeRef) → same_ref a b ≡ true → a ≡ b
-same_word a b e = ap (λ (w : ℕ). let r : NodeRef = record { word = w } in r) (eqb-true a.word b.word e)
+-- ---- the hash of a row
 
-and-left : (a b : Bool) → (a && b) ≡ true → a ≡ true
-and-left true b e = refl
-and-left false b e = e
+-- the hash of the first numbers goes on with the others
+abbrev pub IsHashed : FormSpace → Side → List NodeRef → ℕ → List ℕ → ℕ → ℕ → Type 0
+IsHashed space side numbers own beside below hash =
+    hash_from hash (row_of space side numbers (drop below beside) own) ≡ hash_from 0 (row_of space side numbers beside own)
 
-and-right : (a b : Bool) → (a && b) ≡ true → b ≡ true
-and-right true b e = e
-and-right false b e = absurd (false≢true e)
+pub IsHashed-more : (space : FormSpace) (side : Side) (numbers : List NodeRef) (own : ℕ) (beside : List ℕ) (below hash : ℕ) (number : NodeRef)
+    (next : ℕ) → IsHashed space side numbers own beside below hash → below < length beside →
+    number ≡ number_at numbers (cell_at space side own (slice_index beside below)) → next ≡ hash_more hash number →
+    IsHashed space side numbers own beside (below + 1) next
+IsHashed-more space side numbers own beside below hash number next so_far inside is_number is_next =
+    let more : hash_from hash (row_of space side numbers (drop below beside) own)
+    ≡ hash_from (hash_more hash (number_at numbers (cell_at space side own (slice_index beside below))))
+    (row_of space side numbers (drop (below + 1) beside) own) =
+    at_drop_more (λ (others : List ℕ). hash_from hash (row_of space side numbers others own)) beside below 0 inside in
+    ap (λ (h : ℕ). hash_from h (row_of space side numbers (drop (below + 1) beside) own)) (is_next ∙ ap (hash_more hash) is_number)
+    ∙ sym more ∙ so_far
 
--- rows that the test calls equal are equal
-pub same_rows : (xs ys : List NodeRef) → pointwise same_ref xs ys ≡ true → xs ≡ ys
-same_rows [] [] e = refl
-same_rows [] (y ∷ ys) e = absurd (false≢true e)
-same_rows (x ∷ xs) [] e = absurd (false≢true e)
-same_rows (x ∷ xs) (y ∷ ys) e =
-    ap (λ (r : NodeRef). r ∷ xs) (same_word x y (and-left (same_ref x y) (pointwise same_ref xs ys) e))
-    ∙ ap (λ (rs : List NodeRef). y ∷ rs) (same_rows xs ys (and-right (same_ref x y) (pointwise same_ref xs ys) e))
+pub IsHashed-all : (space : FormSpace) (side : Side) (numbers : List NodeRef) (own : ℕ) (beside : List ℕ) (below hash : ℕ) →
+    IsHashed space side numbers own beside below hash → below ≡ length beside → hash ≡ hash_from 0 (row_of space side numbers beside own)
+IsHashed-all space side numbers own beside below hash all end =
+    let none : hash_from hash (row_of space side numbers (drop below beside) own) ≡ hash =
+    at_drop_all (λ (others : List ℕ). hash_from hash (row_of space side numbers others own)) beside below (omega arith) in
+    sym none ∙ all
 
-same_row : Row → Row → Bool
-same_row a b = pointwise same_ref a.items b.items
+-- ---- equal rows
 
--- one more row
-module _ (old new : Firsts) (key : Row) (state : ℕ) (absent : first_of old key.items ≡ None)
-    (updates : Updates (λ a b. pointwise same_ref a.items b.items) old new key (Some state)) where
-  pub first-inserted : first_of new key.items ≡ Some state
-  first-inserted = updates.1
+pub same_word : (a b : NodeRef) → a.word ≡ b.word → a ≡ b
+same_word a b e = ap (λ (w : ℕ). let r : NodeRef = record { word = w } in r) e
 
-  apart : (row : Row) (other : ℕ) → first_of old row.items ≡ Some other → pointwise same_ref key.items row.items ≡ false
-  apart row other there = elim (cases_Bool (pointwise same_ref key.items row.items)) [
-    | inl same ↦ absurd (let e : None ≡ Some other = sym absent ∙ ap (first_of old) (same_rows key.items row.items same) ∙ there in cc)
-    | inr differs ↦ differs
-  ]
+-- the first numbers of both rows are the same
+abbrev pub SameBelow : FormSpace → Side → List NodeRef → ℕ → ℕ → List ℕ → ℕ → Type 0
+SameBelow space side numbers one two beside below = (k : ℕ) → k < below →
+    number_at numbers (cell_at space side one (slice_index beside k)) ≡ number_at numbers (cell_at space side two (slice_index beside k))
 
-  pub KeepsFirsts-insert : KeepsFirsts old new
-  KeepsFirsts-insert row other there = updates.2 row (apart row other there) ∙ there
+pub SameBelow-more : (space : FormSpace) (side : Side) (numbers : List NodeRef) (one two : ℕ) (beside : List ℕ) (below : ℕ) →
+    SameBelow space side numbers one two beside below →
+    number_at numbers (cell_at space side one (slice_index beside below)) ≡ number_at numbers (cell_at space side two (slice_index beside below)) →
+    SameBelow space side numbers one two beside (below + 1)
+SameBelow-more space side numbers one two beside below so_far here k k_in = elim (cases_lt k below) [
+  | inl before ↦ so_far k before
+  | inr last ↦
+      let is : k ≡ below = omega arith in
+      subst (λ (j : ℕ). number_at numbers (cell_at space side one (slice_index beside j))
+      ≡ number_at numbers (cell_at space side two (slice_index beside j))) (sym is) here
+]
 
-  pub AreFirsts-insert : (rows : ℕ → List NodeRef) → AreFirsts rows old → rows state ≡ key.items → AreFirsts rows new
-  AreFirsts-insert rows firsts is row other there = elim (cases_Bool (pointwise same_ref key.items row.items)) [
-    | inl same ↦
-        let items : key.items ≡ row.items = same_rows key.items row.items same in
-        let e : Some state ≡ Some other = sym first-inserted ∙ ap (first_of new) items ∙ there in
-        let is_state : state ≡ other = cc in
-        sym (ap rows is_state) ∙ is ∙ items
-    | inr differs ↦ firsts row other (sym (updates.2 row differs) ∙ there)
-  ]
+map-each : (f h : ℕ → NodeRef) (xs : List ℕ) → ((k : ℕ) → k < length xs → f (slice_index xs k) ≡ h (slice_index xs k)) → map f xs ≡ map h xs
+map-each f h [] same = refl
+map-each f h (x ∷ xs) same =
+    ap (λ (r : NodeRef). r ∷ map f xs) (same 0 (omega arith))
+    ∙ ap (λ (rs : List NodeRef). h x ∷ rs) (map-each f h xs (λ k k_in. same (suc k) (omega arith)))
 
-pub KeepsFirsts-refl : (firsts : Firsts) → KeepsFirsts firsts firsts
-KeepsFirsts-refl firsts row state there = there
+map-at : (f h : ℕ → NodeRef) (xs : List ℕ) (k : ℕ) → k < length xs → map f xs ≡ map h xs → f (slice_index xs k) ≡ h (slice_index xs k)
+map-at f h [] k inside same = absurd (omega arith)
+map-at f h (x ∷ xs) zero inside same = let e : f x ∷ map f xs ≡ h x ∷ map h xs = same in let r : f x ≡ h x = cc in r
+map-at f h (x ∷ xs) (suc k) inside same =
+    map-at f h xs k (omega arith) (let e : f x ∷ map f xs ≡ h x ∷ map h xs = same in cc)
 
--- the row is kept, with a number
-pub record HasFirst (firsts : Firsts) (row : List NodeRef) (id : ℕ) : Type 0 where
-  pub key : Row
-  pub items : key.items ≡ row
-  pub first : first_of firsts key.items ≡ Some id
+pub rows-same : (space : FormSpace) (side : Side) (numbers : List NodeRef) (one two : ℕ) (beside : List ℕ) (below : ℕ) →
+    SameBelow space side numbers one two beside below → below ≡ length beside →
+    row_of space side numbers beside one ≡ row_of space side numbers beside two
+rows-same space side numbers one two beside below same end =
+    map-each (λ other. number_at numbers (cell_at space side one other)) (λ other. number_at numbers (cell_at space side two other)) beside
+    (λ k k_in. same k (omega arith))
 
--- classes that are the same have the same row
+pub rows-apart : (space : FormSpace) (side : Side) (numbers : List NodeRef) (one two : ℕ) (beside : List ℕ) (k : ℕ) → k < length beside →
+    row_of space side numbers beside one ≡ row_of space side numbers beside two →
+    number_at numbers (cell_at space side one (slice_index beside k)) ≡ number_at numbers (cell_at space side two (slice_index beside k))
+rows-apart space side numbers one two beside k k_in same =
+    map-at (λ other. number_at numbers (cell_at space side one other)) (λ other. number_at numbers (cell_at space side two other)) beside k k_in same
+
+-- ---- classes that are the same
+
+-- they have the same row
 map-same : (f h : ℕ → NodeRef) → ((k : ℕ) → f k ≡ h k) → (xs : List ℕ) → map f xs ≡ map h xs
 map-same f h same [] = refl
 map-same f h same (x ∷ xs) = ap (λ (r : NodeRef). r ∷ map f xs) (same x) ∙ ap (λ (rs : List NodeRef). h x ∷ rs) (map-same f h same xs)
@@ -93,45 +110,67 @@ row_of-same space side numbers beside p q same =
     (λ other. ap (number_at numbers) (cell_at-same space side p q other same)) beside
 
 -- the numbers so far
-pub record IdsBelow (space : FormSpace) (side : Side) (numbers : List NodeRef) (own beside ids : List ℕ) (firsts : Firsts) (below : ℕ) : Type 0 where
+pub record IdsBelow (space : FormSpace) (side : Side) (numbers : List NodeRef) (own beside ids states buckets chain : List ℕ) (below : ℕ) : Type 0 where
   pub many : (i : ℕ) → slice_index (kinds_in space side) i < length ids
-  pub are_firsts : AreFirsts (row_of space side numbers beside) firsts
-  pub each : (k p : ℕ) → k < below → slice_get own k ≡ Some p → HasFirst firsts (row_of space side numbers beside p) (id_of space side ids p)
+  pub are_firsts : AreFirsts (row_of space side numbers beside) (length own) states buckets chain
+  pub among : (i : ℕ) → i < length states → IsAmong own (slice_index states i)
+  pub each : (k p : ℕ) → k < below → slice_get own k ≡ Some p → HasFirst (row_of space side numbers beside) states p (id_of space side ids p)
 
-module _ (space : FormSpace) (side : Side) (numbers : List NodeRef) (own beside ids : List ℕ) (firsts after : Firsts) (below state : ℕ)
-    (so_far : IdsBelow space side numbers own beside ids firsts below) (at : slice_get own below ≡ Some state)
-    (key : Row) (first : ℕ) (items : key.items ≡ row_of space side numbers beside state)
-    (is_first : first_of after key.items ≡ Some first) (keeps : KeepsFirsts firsts after)
-    (firsts_after : AreFirsts (row_of space side numbers beside) after) where
+pub IdsBelow-none : (space : FormSpace) (side : Side) (numbers : List NodeRef) (own beside ids states buckets chain : List ℕ) →
+    ((i : ℕ) → slice_index (kinds_in space side) i < length ids) → AreFirsts (row_of space side numbers beside) (length own) states buckets chain →
+    states ≡ [] → IdsBelow space side numbers own beside ids states buckets chain 0
+IdsBelow-none space side numbers own beside ids states buckets chain many firsts none =
+    let e = ap (λ (xs : List ℕ). length xs) none in
+    record {
+      many = many;
+      are_firsts = firsts;
+      among = λ i i_in. absurd (omega arith);
+      each = λ k p inside there. absurd (omega arith);
+    }
+
+module _ (space : FormSpace) (side : Side) (numbers : List NodeRef) (own beside ids states buckets chain : List ℕ) (below state : ℕ)
+    (so_far : IdsBelow space side numbers own beside ids states buckets chain below) (at : slice_get own below ≡ Some state)
+    (first : ℕ) (longer fuller linked : List ℕ) (has : HasFirst (row_of space side numbers beside) longer state first)
+    (grow : GrowBy state states longer) (firsts_after : AreFirsts (row_of space side numbers beside) (length own) longer fuller linked) where
   new_ids : List ℕ
   new_ids = slice_set ids (slice_index (kinds_in space side) state) first
 
   HasFirst-state : (p : ℕ) → slice_index (kinds_in space side) p ≡ slice_index (kinds_in space side) state →
-      HasFirst after (row_of space side numbers beside p) (id_of space side new_ids p)
+      HasFirst (row_of space side numbers beside) longer p (id_of space side new_ids p)
   unfolding new_ids
-  HasFirst-state p same = record {
-    key = key;
-    items = items ∙ row_of-same space side numbers beside state p (sym same);
-    first = is_first ∙ ap (λ (n : ℕ). Some n) (sym (ap (slice_index new_ids) same
-        ∙ get_or-set_same ids (slice_index (kinds_in space side) state) first 0 (so_far.many state)));
-  }
+  HasFirst-state p same =
+      let id : id_of space side (slice_set ids (slice_index (kinds_in space side) state) first) p ≡ first =
+      ap (slice_index (slice_set ids (slice_index (kinds_in space side) state) first)) same
+      ∙ get_or-set_same ids (slice_index (kinds_in space side) state) first 0 (so_far.many state) in
+      let is : HasFirst (row_of space side numbers beside) longer p first = record {
+        place = has.place;
+        within = has.within;
+        is = has.is;
+        same = has.same ∙ row_of-same space side numbers beside state p (sym same);
+      } in
+      subst (λ (n : ℕ). HasFirst (row_of space side numbers beside) longer p n) (sym id) is
 
   HasFirst-other : (p : ℕ) → (slice_index (kinds_in space side) p ≡ slice_index (kinds_in space side) state → ⊥) →
-      HasFirst firsts (row_of space side numbers beside p) (id_of space side ids p) →
-      HasFirst after (row_of space side numbers beside p) (id_of space side new_ids p)
+      HasFirst (row_of space side numbers beside) states p (id_of space side ids p) →
+      HasFirst (row_of space side numbers beside) longer p (id_of space side new_ids p)
   unfolding new_ids
-  HasFirst-other p other has = record {
-    key = has.key;
-    items = has.items;
-    first = keeps has.key (id_of space side ids p) has.first ∙ ap (λ (n : ℕ). Some n)
-        (sym (get_or-set_other ids (slice_index (kinds_in space side) state) (slice_index (kinds_in space side) p) first 0 other));
-  }
+  HasFirst-other p other was =
+      subst (λ (n : ℕ). HasFirst (row_of space side numbers beside) longer p n)
+      (sym (get_or-set_other ids (slice_index (kinds_in space side) state) (slice_index (kinds_in space side) p) first 0 other))
+      (HasFirst-grown (row_of space side numbers beside) p (id_of space side ids p) state states longer grow was)
 
-  pub IdsBelow-push : IdsBelow space side numbers own beside (slice_set ids (slice_index (kinds_in space side) state) first) after (below + 1)
+  pub IdsBelow-push : IdsBelow space side numbers own beside (slice_set ids (slice_index (kinds_in space side) state) first) longer fuller linked
+      (below + 1)
   unfolding new_ids
   IdsBelow-push = record {
     many = λ i. let b = so_far.many i in let e = length-set ids (slice_index (kinds_in space side) state) first in omega arith;
     are_firsts = firsts_after;
+    among = λ i i_in. elim (cases_lt i (length states)) [
+      | inl before ↦ subst (IsAmong own) (sym (grow.kept i before)) (so_far.among i before)
+      | inr past ↦
+          let is : IsAmong own state = record { place = below; there = at } in
+          subst (IsAmong own) (sym (grow.more i past i_in)) is
+    ];
     each = λ k p inside there. elim (cases_eq (slice_index (kinds_in space side) p) (slice_index (kinds_in space side) state)) [
       | inl same ↦ HasFirst-state p same
       | inr other ↦ elim (cases_lt k below) [
@@ -145,22 +184,17 @@ module _ (space : FormSpace) (side : Side) (numbers : List NodeRef) (own beside 
     ];
   }
 
-pub AreIds-all : (space : FormSpace) (side : Side) (numbers : List NodeRef) (own beside ids : List ℕ) (firsts : Firsts) →
-    IdsBelow space side numbers own beside ids firsts (length own) → AreIds space side numbers own beside ids
-AreIds-all space side numbers own beside ids firsts all =
-    let has : (p : ℕ) → IsAmong own p → HasFirst firsts (row_of space side numbers beside p) (id_of space side ids p) = λ p among.
+pub AreIds-all : (space : FormSpace) (side : Side) (numbers : List NodeRef) (own beside ids states buckets chain : List ℕ) →
+    IdsBelow space side numbers own beside ids states buckets chain (length own) → AreIds space side numbers own beside ids
+AreIds-all space side numbers own beside ids states buckets chain all =
+    let has : (p : ℕ) → IsAmong own p → HasFirst (row_of space side numbers beside) states p (id_of space side ids p) = λ p among.
     all.each among.place p (slice_get_within own among.place p among.there) among.there in
     record {
       same = λ p q p_in q_in same.
           let one = has p p_in in
           let two = has q q_in in
-          sym one.items ∙ sym (all.are_firsts one.key (id_of space side ids p) one.first)
-          ∙ ap (row_of space side numbers beside) same
-          ∙ all.are_firsts two.key (id_of space side ids q) two.first ∙ two.items;
+          sym one.same ∙ ap (row_of space side numbers beside) same ∙ two.same;
       apart = λ p q p_in q_in same.
-          let one = has p p_in in
-          let two = has q q_in in
-          let e : Some (id_of space side ids p) ≡ Some (id_of space side ids q) =
-          sym one.first ∙ ap (first_of firsts) (one.items ∙ same ∙ sym two.items) ∙ two.first in
-          cc;
+          HasFirst-one (row_of space side numbers beside) (length own) states buckets chain p q (id_of space side ids p) (id_of space side ids q)
+          all.are_firsts (has p p_in) (has q q_in) same;
     }

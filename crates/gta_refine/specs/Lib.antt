@@ -6,4 +6,5 @@ pub mod Looked
 pub mod Uses
 pub mod Givers
 pub mod Cuts
+pub mod Choices
 pub mod Scratch

@@ -5,6 +5,8 @@
 #![tactic(auto)]
 
 mod cascade;
+mod choices;
+mod firsts;
 mod givers;
 mod numbers;
 mod rounds;

@@ -9,15 +9,17 @@ ghost use Rattle.gta_reach.specs.Sides.{kinds_in, opposite, child_of, HasRootAt}
 ghost use Rattle.gta_classes.specs.Classes.{AreClasses, IsSplit};
 ghost use Rattle.gta_refine.specs.Refined.{part_at, bit_of, room_in, TakesRoom};
 ghost use Rattle.gta_refine.specs.Refined.{AreSingle, ArePartition, IsStableAt, IsRefined};
+ghost use Rattle.gta_refine.specs.Choices.{AreAllChosen};
 ghost use Rattle.gta_refine.specs.Looked.{AreChosenAt, AreNumbersAt, AreRows, WereRows, AreSpread};
 ghost use Rattle.gta_refine.specs.Looked.{IsSplitAt, AreFiner, IsStableFrom, AreStable, AreLooked};
 ghost use Rattle.gta_reach.specs.declared.sides.Side.TheVariants.{Left, Right};
 
 use crate::cascade::cascade;
-use crate::numbers::number_roots;
+use crate::choices::{Choices, all_choices, choices_of};
+use crate::numbers::{first_shelf, number_roots};
 use crate::rows::number_rows;
 use crate::uses::uses_of;
-use bdd_nodes::{NodeRef, RefList};
+use bdd_nodes::{NodeRef, RefList, Shelf};
 use gta_classes::{SpaceClasses, SpaceClassesList, choose, split};
 use gta_reach::{Form, FormSpace, Side, child, kinds_of, reach};
 use plain_data::Items;
@@ -151,7 +153,7 @@ pub(crate) fn other(side: Side) -> Side
 }
 
 /// Some reached states of a child of a space: one for each class of its states that have the same roots.
-fn choose_at(
+pub(crate) fn choose_at(
     alloc: Global,
     form: &Form,
     s: usize,
@@ -174,6 +176,7 @@ fn numbers_at(
     form: &Form,
     s: usize,
     spaces: &[SpaceClasses],
+    shelf: &mut Shelf,
 ) -> Result<RefList, AllocError>
     requires form { IsForm form.now }
     requires space { s < length form.now.spaces }
@@ -182,7 +185,7 @@ fn numbers_at(
 {
     let space = form.space(s);
     let classes = part_of(spaces, s).classes.as_slice();
-    let numbers = number_roots(alloc, &space.listing, classes)?;
+    let numbers = number_roots(alloc, shelf, &space.listing, classes)?;
     Ok(numbers)
 }
 
@@ -265,6 +268,7 @@ fn split_sides(
     left: &[u32],
     right: &[u32],
     spaces: &mut Vec<SpaceClasses>,
+    shelf: &mut Shelf,
 ) -> Result<bool, AllocError>
     requires form { IsForm form.now }
     requires space { s < length form.now.spaces }
@@ -277,7 +281,7 @@ fn split_sides(
     ensures stable { IfOk result (λ more. (side : Side) → IsStableFrom form.now spaces.old.items spaces.new.items s side) }
     ensures room { IfOk result (λ more. TakesRoom more (room_in spaces.old.items) (room_in spaces.new.items)) }
 {
-    let number_list = numbers_at(alloc, form, s, spaces)?;
+    let number_list = numbers_at(alloc, form, s, spaces, shelf)?;
     let numbers = number_list.as_slice();
     let is_more_left = split_child(alloc, form, s, Side::Left, numbers, left, right, spaces)?;
     let is_more_right = split_child(alloc, form, s, Side::Right, numbers, right, left, spaces)?;
@@ -296,11 +300,14 @@ fn are_single(left: &[u32], right: &[u32]) -> bool
 fn split_children(
     alloc: Global,
     form: &Form,
+    choices: &[Choices],
     s: usize,
     spaces: &mut Vec<SpaceClasses>,
+    shelf: &mut Shelf,
 ) -> Result<bool, AllocError>
     requires form { IsForm form.now }
     requires space { s < length form.now.spaces }
+    requires choices { AreAllChosen form.now choices.now }
     requires partition { ArePartition form.now spaces.old.items }
     ensures partition { IfOk result (λ more. ArePartition form.now spaces.new.items) }
     ensures finer { IfOk result (λ more. AreFiner spaces.old.items spaces.new.items) }
@@ -308,12 +315,13 @@ fn split_children(
     ensures stable { IfOk result (λ more. (side : Side) → IsStableFrom form.now spaces.old.items spaces.new.items s side) }
     ensures room { IfOk result (λ more. TakesRoom more (room_in spaces.old.items) (room_in spaces.new.items)) }
 {
-    let left = choose_at(alloc, form, s, Side::Left, spaces)?;
-    let right = choose_at(alloc, form, s, Side::Right, spaces)?;
-    if are_single(&left, &right) {
+    let chosen = choices_of(choices, s);
+    let left = chosen.left.as_slice();
+    let right = chosen.right.as_slice();
+    if are_single(left, right) {
         return Ok(false);
     }
-    let is_more = split_sides(alloc, form, s, &left, &right, spaces)?;
+    let is_more = split_sides(alloc, form, s, left, right, spaces, shelf)?;
     Ok(is_more)
 }
 
@@ -322,12 +330,15 @@ fn split_children(
 fn look_at(
     alloc: Global,
     form: &Form,
+    choices: &[Choices],
     s: usize,
     looked: &mut Vec<usize>,
     spaces: &mut Vec<SpaceClasses>,
+    shelf: &mut Shelf,
 ) -> Result<bool, AllocError>
     requires form { IsForm form.now }
     requires space { s < length form.now.spaces }
+    requires choices { AreAllChosen form.now choices.now }
     requires partition { ArePartition form.now spaces.old.items }
     requires looked { AreLooked form.now spaces.old.items looked.old.items }
     ensures partition { IfOk result (λ more. ArePartition form.now spaces.new.items) }
@@ -340,7 +351,7 @@ fn look_at(
     if looked[s] == many {
         return Ok(false);
     }
-    let is_more = split_children(alloc, form, s, spaces)?;
+    let is_more = split_children(alloc, form, choices, s, spaces, shelf)?;
     looked[s] = many;
     Ok(is_more)
 }
@@ -350,10 +361,13 @@ fn look_at(
 fn refine_more(
     alloc: Global,
     form: &Form,
+    choices: &[Choices],
     looked: &mut Vec<usize>,
     spaces: &mut Vec<SpaceClasses>,
+    shelf: &mut Shelf,
 ) -> Result<bool, AllocError>
     requires form { IsForm form.now }
+    requires choices { AreAllChosen form.now choices.now }
     requires partition { ArePartition form.now spaces.old.items }
     requires looked { AreLooked form.now spaces.old.items looked.old.items }
     ensures partition { IfOk result (λ more. ArePartition form.now spaces.new.items) }
@@ -363,7 +377,7 @@ fn refine_more(
 {
     let mut is_more = false;
     for s in 0..form.spaces.len() {
-        if look_at(alloc, form, s, looked, spaces)? {
+        if look_at(alloc, form, choices, s, looked, spaces, shelf)? {
             is_more = true;
         }
     }
@@ -377,10 +391,13 @@ const FEW_ROUNDS: u32 = 8;
 fn refine_some(
     alloc: Global,
     form: &Form,
+    choices: &[Choices],
     looked: &mut Vec<usize>,
     spaces: &mut Vec<SpaceClasses>,
+    shelf: &mut Shelf,
 ) -> Result<bool, AllocError>
     requires form { IsForm form.now }
+    requires choices { AreAllChosen form.now choices.now }
     requires partition { ArePartition form.now spaces.old.items }
     requires looked { AreLooked form.now spaces.old.items looked.old.items }
     ensures partition { IfOk result (λ more. ArePartition form.now spaces.new.items) }
@@ -388,7 +405,7 @@ fn refine_some(
     ensures stable { IfOk result (λ more. more ≡ false → AreStable form.now spaces.new.items) }
 {
     for _ in 0..FEW_ROUNDS {
-        if !refine_more(alloc, form, looked, spaces)? {
+        if !refine_more(alloc, form, choices, looked, spaces, shelf)? {
             return Ok(false);
         }
     }
@@ -399,23 +416,26 @@ fn refine_some(
 fn refine_fully(
     alloc: Global,
     form: &Form,
+    choices: &[Choices],
     looked: &mut Vec<usize>,
     spaces: &mut Vec<SpaceClasses>,
+    shelf: &mut Shelf,
 ) -> Result<(), AllocError>
     requires form { IsForm form.now }
+    requires choices { AreAllChosen form.now choices.now }
     requires partition { ArePartition form.now spaces.old.items }
     requires looked { AreLooked form.now spaces.old.items looked.old.items }
     ensures partition { IfOk result (λ done. ArePartition form.now spaces.new.items) }
     ensures stable { IfOk result (λ done. AreStable form.now spaces.new.items) }
 {
-    if !refine_some(alloc, form, looked, spaces)? {
+    if !refine_some(alloc, form, choices, looked, spaces, shelf)? {
         return Ok(());
     }
     let uses = uses_of(alloc, form, spaces)?;
     let mut done = vec![in alloc; 0; spaces.len()]?;
     'rounds: loop {
         cascade(alloc, form, &uses, &mut done, spaces)?;
-        let is_more = refine_more(alloc, form, looked, spaces)?;
+        let is_more = refine_more(alloc, form, choices, looked, spaces, shelf)?;
         if !is_more {
             break 'rounds;
         }
@@ -433,7 +453,9 @@ pub fn refine(alloc: Global, form: &Form) -> Result<SpaceClassesList, AllocError
     ensures { IfOk result (IsRefined form.now) }
 {
     let mut spaces = classes_at_first(alloc, form)?;
+    let choices = all_choices(alloc, form, &spaces)?;
     let mut looked = vec![in alloc; 1; spaces.len()]?;
-    refine_fully(alloc, form, &mut looked, &mut spaces)?;
+    let mut shelf = first_shelf(alloc)?;
+    refine_fully(alloc, form, &choices, &mut looked, &mut spaces, &mut shelf)?;
     Ok(Items::from_vec(spaces))
 }

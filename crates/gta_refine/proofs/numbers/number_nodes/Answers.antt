@@ -1,5 +1,5 @@
 -- One node more.
-use Rattle.std.proofs.Common.{◌≡◌, ◌<◌, List, length, sym, ◌∙◌, subst, arith}
+use Rattle.std.proofs.Common.{◌≡◌, ◌+◌, ◌<◌, List, length, sym, ◌∙◌, subst, arith}
 use Rattle.bdd_nodes.specs.declared.node_ref.NodeRef.{NodeRef}
 use Rattle.bdd_nodes.specs.Shelf.{count_of}
 use Rattle.bdd_nodes.specs.Changes.{is_valid}
@@ -52,7 +52,10 @@ loop-index-preserved c =
     subst (λ (rs : List NodeRef). AreNumbered old classes nodes rs) (sym c.deref-in-loop-index.ensures.value) inv.numbered in
     record {
       is_shelf = e.shelf;
-      count = count-if (is_valid old made) (count_of old) index (count_of new) inv.count e.count;
+      count =
+          let start = count_of c.args.shelf.now in
+          let next = count-if (is_valid old made) (count_of old) (start + index) (count_of new) inv.count e.count in
+          omega arith;
       limit = e.limit ∙ inv.limit;
       many = let l = c.in_ok-push.ensures.len in let m = inv.many in omega arith;
       numbered = subst (λ (rs : List NodeRef). AreNumbered new classes nodes rs) (sym c.in_ok-push.ensures.items)
