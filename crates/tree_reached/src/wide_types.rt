@@ -7,15 +7,37 @@ ghost use Rattle.ws2s_core.specs.Satisfaction.{Same};
 use crate::ends::are_at_ends;
 use crate::replacing::replaced;
 use crate::steps::are_led_to;
-use crate::ways::{last_number, ways_to};
+use crate::ways::{Way, last_number, ways_to};
 use std::alloc::{AllocError, Global};
-use store_core::TypeId;
+use store_core::{Owner, TypeId};
 use tree_encode::Layout;
 use ws2s_core::Formula;
 
 /// A type is told by field where a way to its cells has at least so many steps by 1. The automaton of its formula as it stands
 /// grows twice as large with each step under a negated quantifier, and with fewer steps it is small.
 pub const MANY_STEPS: u32 = 7;
+
+/// The way begins at cells of one variant alone.
+fn is_of_variant(l: &Layout<'_>, way: Way) -> bool {
+    match way.holder {
+        Some(f) => matches!(l.types().owner(f), Some(Owner::Variant(_))),
+        None => false,
+    }
+}
+
+/// The ways have many steps, and each cell of a type has all of its fields. Where variants have fields of their own, a set of a
+/// step tells apart from which of them it comes, and the formula by field is the larger one.
+fn is_wide(l: &Layout<'_>, ways: &[Way]) -> bool {
+    if last_number(ways) < MANY_STEPS {
+        return false;
+    }
+    for way in ways {
+        if is_of_variant(l, *way) {
+            return false;
+        }
+    }
+    true
+}
 
 /// The track that a negated quantifier binds.
 fn bound_by(formula: &Formula) -> Option<u32> {
@@ -51,7 +73,7 @@ fn with_type(
     ensures { IfOk result (Same formula) }
 {
     let ways = ways_to(alloc, l, ty)?;
-    if last_number(ways.as_slice()) < MANY_STEPS {
+    if !is_wide(l, ways.as_slice()) {
         return Ok(formula);
     }
     let at_ends = are_at_ends(alloc, l, next, ty, ways.as_slice())?;
