@@ -12,16 +12,20 @@ use store_core::{Store, TypeTable, VarId, VarTable};
 use store_logic::{Region, VarList};
 use store_sat::sat;
 
+fn var_of(letter: u8) -> VarId {
+    match letter {
+        b'x' => VarId(0),
+        b'y' => VarId(1),
+        _ => VarId(3),
+    }
+}
+
 /// The part of the variables of these letters behind `part`, or the rest behind `rest`.
 fn region_of(alloc: Global, words: &str) -> Result<Region, AllocError> {
     let (word, letters) = words.split_once(' ').unwrap_or((words, ""));
     let mut vars = VarList::new(alloc);
     for letter in letters.as_bytes() {
-        vars.push(match letter {
-            b'x' => VarId(0),
-            b'y' => VarId(1),
-            _ => VarId(3),
-        })?;
+        vars.push(var_of(*letter))?;
     }
     if word == "part" {
         Ok(Region::Part(vars))
@@ -55,12 +59,20 @@ fn check(
     Ok(())
 }
 
+fn check_all(
+    rt: &impl Abort,
+    alloc: Global,
+    types: &TypeTable,
+    vars: &VarTable,
+) -> Result<(), Fail> {
+    for case in CASES {
+        check(rt, alloc, types, vars, case)?;
+    }
+    Ok(())
+}
+
 #[test]
 fn names_from_outside_count_as_null(rt: HostRuntime) -> Result<(), Fail> {
     let typed = program_of(rt.alloc(), VARS, "true")?;
-    let vars = vars_of(&typed)?;
-    for case in CASES {
-        check(&rt, rt.alloc(), typed.types(), vars, case)?;
-    }
-    Ok(())
+    check_all(&rt, rt.alloc(), typed.types(), vars_of(&typed)?)
 }

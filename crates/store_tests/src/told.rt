@@ -2,6 +2,7 @@
 
 use crate::programs::{SHORT, is_text, program_of, store_of, vars_of};
 use std::alloc::Global;
+use std::process::Abort;
 use std::test::Fail;
 use store_core::{TypeTable, VarTable};
 
@@ -45,17 +46,18 @@ fn is_written(
     Ok(is_text(alloc, types, vars, &store, want)?)
 }
 
+fn check(rt: &impl Abort, alloc: Global, types: &TypeTable, vars: &VarTable) -> Result<(), Fail> {
+    for (text, want) in TEXTS {
+        let is_right = is_written(alloc, types, vars, text, want)?;
+        assert!(rt; is_right, "at {text}");
+    }
+    Ok(())
+}
+
 #[test]
 fn stores_are_written_in_their_order(rt: HostRuntime) -> Result<(), Fail> {
     let typed = program_of(rt.alloc(), SHORT, "true")?;
-    let vars = vars_of(&typed)?;
-    for (text, want) in TEXTS {
-        assert!(rt;
-            is_written(rt.alloc(), typed.types(), vars, text, want)?,
-            "at {text}"
-        );
-    }
-    Ok(())
+    check(&rt, rt.alloc(), typed.types(), vars_of(&typed)?)
 }
 
 /// Whether a copy of the store with gaps has its text, its three cells and its next number.

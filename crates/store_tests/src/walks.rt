@@ -5,6 +5,7 @@ use crate::programs::{LEAF, NODE, TREE_LINES, VARS, program_of, store_of, vars_o
 use plain_data::{Boxed, Items};
 use routing_expr::{Followed, ends};
 use std::alloc::{AllocError, Global};
+use std::process::Abort;
 use std::test::Fail;
 use store_core::{CellId, CellList, Route, Store, TypeTable, VariantId};
 
@@ -98,15 +99,17 @@ fn leads(
     Ok(lists(&found, wanted))
 }
 
+fn check(rt: &impl Abort, alloc: Global, types: &TypeTable, store: &Store) -> Result<(), Fail> {
+    for (way, from, wanted) in CASES {
+        let is_led = leads(alloc, types, store, way, *from, wanted)?;
+        assert!(rt; is_led, "{from} to {wanted}");
+    }
+    Ok(())
+}
+
 #[test]
 fn names_that_are_no_data_fields_lead_nowhere(rt: HostRuntime) -> Result<(), Fail> {
     let typed = program_of(rt.alloc(), VARS, "true")?;
     let store = store_of(rt.alloc(), typed.types(), vars_of(&typed)?, TREE_LINES)?;
-    for (way, from, wanted) in CASES {
-        assert!(rt;
-            leads(rt.alloc(), typed.types(), &store, way, *from, wanted)?,
-            "{from} to {wanted}"
-        );
-    }
-    Ok(())
+    check(&rt, rt.alloc(), typed.types(), &store)
 }
