@@ -1,18 +1,13 @@
 -- Where runs end.
-use Rattle.std.proofs.Common.{◌≡◌, ℕ, suc, List, [], ◌∷◌, Option, Result, Err, IfErr, refl, sym, ap, ◌∙◌, subst}
+use Rattle.std.proofs.Common.{◌≡◌, ℕ, suc, List, [], ◌∷◌, Option, refl, sym, ap, ◌∙◌, subst}
 use Rattle.store_core.specs.Stores.{StoreMap}
 use Rattle.pale_typed.specs.TypedPrograms.{TypedProgram}
 use Rattle.pale_typed.specs.Fitting.{ProgramFits}
 use Rattle.hoare_split.proofs.FittingClaimLemmas.{PutsFit}
-use Rattle.pale_typed.specs.declared.typed.ProcEntry.{ProcEntry}
-use Rattle.pale_typed.specs.declared.typed.Stmt.{Stmt}
 use Rattle.store_trace.specs.declared.event.Event.{Event}
 use Rattle.whole_run.specs.States.{Frame, Waiting, State, runs, exited, fails, Answer, Running, Exit}
 use Rattle.whole_run.proofs.AnswerStanding.{Holds}
-use Rattle.whole_trace.specs.Stopping.{LeftStops}
 use Rattle.whole_trace.specs.Traces.{Stand, Rests, Traces, proc_at, stand_at, calls_of}
-use Rattle.whole_turns.specs.declared.activation.At.{At}
-use Rattle.whole_turns.specs.declared.halted.Halted.{Halted}
 use Rattle.whole_turns.specs.declared.ending.RunEnd.{RunEnd}
 use Rattle.whole_turns.specs.declared.ending.RunEnd.TheVariants as end
 use Rattle.whole_exec.specs.Answers.{answer_with, stand_of}

@@ -1,5 +1,5 @@
 -- A whole run has one trace.
-use Rattle.std.proofs.Common.{◌≡◌, ◌∙◌, ℕ, zero, suc, List, [], ◌∷◌, ◌++◌, Some, Ok, slice_get, refl, sym, ap, subst}
+use Rattle.std.proofs.Common.{◌≡◌, ◌∙◌, ℕ, zero, suc, List, [], ◌∷◌, ◌++◌, Ok, sym, ap, subst}
 use Rattle.store_core.specs.Stores.{StoreMap}
 use Rattle.pale_typed.specs.declared.typed.ProcEntry.{ProcEntry}
 use Rattle.pale_typed.specs.declared.typed.Stmt.{Stmt, out-Stmt}
@@ -9,7 +9,7 @@ use Rattle.store_exec.specs.declared.code.Item.{Item}
 use Rattle.store_exec.specs.Runs.{RunsItems}
 use Rattle.hoare_split.specs.Picking.{is_awaited, is_left}
 use Rattle.hoare_split.specs.Settings.{settings}
-use Rattle.whole_run.specs.States.{Waiting, State, runs, exited, Turn, goes, fails, Answer}
+use Rattle.whole_run.specs.States.{State, runs, exited, Turn, goes, fails, Answer}
 use Rattle.whole_run.proofs.OneAnswer.{items_end_one, takes_one, returns_one}
 use Rattle.store_trace.specs.declared.event.Event.{Event}
 use Rattle.whole_trace.specs.Shown.{state_shows}
