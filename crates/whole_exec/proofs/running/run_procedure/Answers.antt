@@ -48,9 +48,9 @@ returns-in-Exit-clause-fits c = λ t is.
     let stood = c.in_ok-stood.stood in
     let told = c.in_ok-stood.ensures.traced in
     let traced = subst (λ (e : RunEnd). TracedRun program c.args.number c.args.store c.args.steps told.0 (stand_of stood.proc stood.at)
-        (answer_with stood.at e)) c.in-Exit.is told.1 in
+    (answer_with stood.at e)) c.in-Exit.is told.1 in
     let stands = c.traces_are_whole_runs.ensures.exits program c.args.number c.args.store c.args.steps told.0 (stand_of stood.proc stood.at)
-        stood.at traced in
+    stood.at traced in
     let here : stood.proc ≡ c.args.number = ap (λ (x : Stand). x.proc) stands in
     let e : answer.Exit stood.at ≡ answer.Exit t = is in
     let same : stood.at ≡ t = cc in
