@@ -3,6 +3,7 @@ pub mod ClassesLemmas
 pub mod KeyedLemmas
 pub mod ComplementLemmas
 pub mod FillingLemmas
+pub mod LeavesLemmas
 pub mod JoinsLemmas
 pub mod RowsLemmas
 pub mod LimitLemmas
