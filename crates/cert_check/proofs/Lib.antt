@@ -1,2 +1,1 @@
-pub mod NodesLemmas
 pub mod WorkedLemmas

@@ -18,7 +18,7 @@ use Rattle.cert_text.specs.declared.line.Way.TheVariants as way
 use Rattle.cert_text.specs.declared.line.Target.TheVariants as target
 use Rattle.cert_theory.specs.Worked.{contradiction, contradiction_nodes, contradiction_stages, never}
 use Rattle.cert_theory.proofs.WorkedLemmas.{worked-section}
-use Rattle.cert_check.specs.Nodes.{state_on, functions_of, AreNodes}
+use Rattle.cert_nodes.specs.Nodes.{state_on, functions_of, AreNodes}
 use Rattle.cert_check.specs.Told.{Rooted, StepLines, root_of, class_of, told_automaton, nodes_of_steps, Tells, ShowsNone}
 use Rattle.cert_check.specs.Worked.{contradiction_lines}
 

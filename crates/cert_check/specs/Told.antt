@@ -26,7 +26,7 @@ use Rattle.cert_text.specs.declared.line.Line.{Line}
 use Rattle.cert_text.specs.declared.line.Line.TheVariants as line
 use Rattle.cert_theory.specs.Tables.{NamedPair, NamedSet, PlacedState, IsSettledList}
 use Rattle.cert_theory.specs.Sections.{Stage, IsSection}
-use Rattle.cert_check.specs.Nodes.{state_on, functions_of, AreNodes}
+use Rattle.cert_nodes.specs.Nodes.{state_on, functions_of, AreNodes}
 
 -- ---- one step
 

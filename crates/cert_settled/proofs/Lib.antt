@@ -1,0 +1,3 @@
+pub mod StatesLemmas
+pub mod StepsLemmas
+pub mod ClosedLemmas
