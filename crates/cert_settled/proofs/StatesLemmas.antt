@@ -14,7 +14,7 @@ use Rattle.cert_settled.specs.Settling.{placed}
 abbrev pub same_placed : Placed → Placed → Bool
 same_placed = (placed_eq.ghosts).eq
 
-places-same : (a b : PlacedState) → a.space ≡ b.space → a.state ≡ b.state → a ≡ b
+pub places-same : (a b : PlacedState) → a.space ≡ b.space → a.state ≡ b.state → a ≡ b
 places-same a b space state = λ i. record { space = space i; state = state i }
 
 pub same_placed-true : (a b : Placed) → same_placed a b ≡ true → placed a ≡ placed b

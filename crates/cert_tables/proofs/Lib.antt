@@ -11,3 +11,5 @@ pub mod RisingLemmas
 pub mod SetKeysLemmas
 pub mod ClassesLemmas
 pub mod SetsLemmas
+pub mod AcceptingLemmas
+pub mod OrdersLemmas

@@ -220,10 +220,10 @@ ok-map (Err e) P Q into holds = tt
 iff-both : {A B C : Type 0} → A ↔ B → B ↔ C → A ↔ C
 iff-both one other = ((λ x. other.0 (one.0 x)), (λ z. one.1 (other.1 z)))
 
-iff-back : {A B : Type 0} → A ↔ B → B ↔ A
+pub iff-back : {A B : Type 0} → A ↔ B → B ↔ A
 iff-back one = (one.1, one.0)
 
-to-same : (table : List NamedSet) (s : ℕ) (Members Others : ℕ → Type 0) (z y : ℕ) → SetGoesTo table s Members z → ((q : ℕ) → Members q ↔ Others q) → z ≡ y →
+pub to-same : (table : List NamedSet) (s : ℕ) (Members Others : ℕ → Type 0) (z y : ℕ) → SetGoesTo table s Members z → ((q : ℕ) → Members q ↔ Others q) → z ≡ y →
     SetGoesTo table s Others y
 to-same table s Members Others z y goes same is = record {
   set = goes.set;

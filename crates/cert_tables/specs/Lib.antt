@@ -1,4 +1,6 @@
+pub mod Accepting
 pub mod Automata
+pub mod Orders
 pub mod PairKeys
 pub mod Pairs
 pub mod SetKeys

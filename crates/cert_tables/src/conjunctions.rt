@@ -3,25 +3,17 @@
 ghost use Rattle.std.specs.Prelude.{◌≡◌, ◌↔◌, map, IsTrue, IfOk};
 ghost use Rattle.cert_theory.specs.Tables.{IsPairTable};
 ghost use Rattle.cert_nodes.specs.Spots.{AreDrawn};
-ghost use Rattle.cert_tables.specs.Automata.{signed, accepts_signed, table_automaton};
+ghost use Rattle.cert_tables.specs.Automata.{signed, table_automaton};
 ghost use Rattle.cert_tables.specs.PairKeys.{named_pair};
 ghost use Rattle.cert_tables.specs.Pairs.{AcceptsAlike, AcceptAlike};
 
 use crate::pair_table::PairTable;
 use crate::pairs::{go_along, start_together};
-use crate::table::{Table, accepts};
+use crate::table::{Table, accepts, accepts_signed};
 use cert_nodes::Diagrams;
 use cert_text::PairLine;
 use std::alloc::{AllocError, Global};
 use ws2s_core::Guide;
-
-/// Whether a state of space 0 accepts in the automaton, or in its complement.
-fn accepts_signed(table: &Table, is_negated: bool, state: u32) -> bool
-    ensures { result ≡ accepts_signed table.now is_negated state }
-{
-    let accepting = accepts(table, state);
-    if is_negated { !accepting } else { accepting }
-}
 
 /// Whether a pair of space 0 accepts in both parts exactly where its state does.
 fn accepts_alike(

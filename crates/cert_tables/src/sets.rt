@@ -1,6 +1,7 @@
 //! Whether sets of states go along with the steps of two automata.
 
 ghost use Rattle.std.specs.Prelude.{◌≡◌, ◌↔◌, ◌⊎◌, ◌++◌, List, map, Contains, IsTrue, IfOk, OnOk};
+ghost use Rattle.cert_theory.specs.Tables.{SetGoesTo};
 ghost use Rattle.cert_nodes.specs.declared.spots.Spot.{Spot};
 ghost use Rattle.cert_nodes.specs.Spots.{AreDrawn};
 ghost use Rattle.cert_tables.specs.Automata.{table_automaton};
@@ -130,6 +131,16 @@ fn set_starts(
     Ok(starts)
 }
 
+/// Whether the set of these states, in any order, goes to that state. Takes no memory.
+pub fn set_goes_to(sets: &SetTable, space: u32, members: Vec<u32>, state: u32) -> bool
+    ensures { IsTrue result ↔ SetGoesTo (map named_set sets.now) space (Contains members.items) state }
+{
+    match sets.state(space, rising(members)) {
+        Some(found) => found == state,
+        None => false,
+    }
+}
+
 /// Whether the set of the later states goes to the first one.
 fn set_goes(alloc: Global, sets: &SetTable, space: u32, states: &[u32]) -> Result<bool, AllocError>
     ensures { IfOk result (λ goes. IsTrue goes ↔ SetGoes (map named_set sets.now) space states.now) }
@@ -137,11 +148,8 @@ fn set_goes(alloc: Global, sets: &SetTable, space: u32, states: &[u32]) -> Resul
     let Some((whole, others)) = states.split_first() else {
         return Ok(false);
     };
-    let members = rising(Vec::from_slice(alloc, others)?);
-    match sets.state(space, members) {
-        Some(state) => Ok(state == *whole),
-        None => Ok(false),
-    }
+    let members = Vec::from_slice(alloc, others)?;
+    Ok(set_goes_to(sets, space, members, *whole))
 }
 
 /// Whether in each of the lists the set of the later states goes to the first one.

@@ -1,7 +1,7 @@
 //! Automata as tables.
 
 ghost use Rattle.std.specs.Prelude.{◌≡◌, Some, slice_get, unwrap_or};
-ghost use Rattle.cert_tables.specs.Automata.{space_in, class_at, class_by, class_in, initial_in, cell_by, spot_in, accepts_in};
+ghost use Rattle.cert_tables.specs.Automata.{space_in, class_at, class_by, class_in, initial_in, cell_by, spot_in, accepts_in, accepts_signed};
 
 use cert_nodes::Spot;
 use cert_text::{NumberList, Target};
@@ -112,4 +112,12 @@ pub fn accepts(table: &Table, state: u32) -> bool
         Some(accepts) => *accepts,
         None => false,
     }
+}
+
+/// Whether a state of space 0 accepts in the automaton, or in its complement.
+pub(crate) fn accepts_signed(table: &Table, is_negated: bool, state: u32) -> bool
+    ensures { result ≡ accepts_signed table.now is_negated state }
+{
+    let accepting = accepts(table, state);
+    if is_negated { !accepting } else { accepting }
 }
