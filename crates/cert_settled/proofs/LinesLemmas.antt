@@ -2,6 +2,8 @@
 use Rattle.std.proofs.Common.{◌≡◌, ◌⊎◌, inl, inr, ℕ, zero, suc, ◌+◌, ◌<◌, ◌≤◌, Bool, List, [], ◌∷◌, ◌++◌, length, map, take, drop}
 use Rattle.std.proofs.Common.{Contains, Some, None, slice_get, get_or, refl, ap, sym, ◌∙◌, subst, arith, min}
 use Rattle.std.proofs.Common.{length-append, length-take, append_assoc, take-append-drop, append-nil}
+use Rattle.std.proofs.Common.{Result, Ok, Err, IfErr}
+use Rattle.std.specs.Result.{IsErrAnd}
 use Rattle.std.proofs.lemmas.Bool.{cases_lt}
 use Rattle.std.proofs.lemmas.List.{take_more, map_push, map-append, length-map}
 use Rattle.std.proofs.lemmas.List.Elements.{Contains-get_or, Contains-append_left}
@@ -138,6 +140,11 @@ settle-fault g A t starts lines (fault.Start k) has is = absurd is
 settle-fault g A t starts lines (fault.Settle k) has is = (has, is.0, is.1)
 settle-fault g A t starts lines fault.Open has is = absurd is
 settle-fault g A t starts lines fault.NoMemory has is = tt
+
+-- a fault that a call hands on
+pub handed-on : {T : Type 0} (P : SettleFault → Type 0) (r : Result T SettleFault) (f : SettleFault) → IsErrAnd r (λ e. e ≡ f) → P f → IfErr r P
+handed-on P (Ok x) f is holds = absurd is
+handed-on P (Err e) f is holds = subst P (sym is) holds
 
 -- ---- right lines tell a list of settled states
 

@@ -23,7 +23,7 @@ loop-place-preserved c =
     let line = get_or lines i none in
     let old = c.loop-place.states in
     let yes = c.if-not-is_new.false in
-    settled-next c.args.g.now A c.args.track c.args.states.now lines old c.settle-is_new.new.states i line c.loop-place.invariant
+    settled-next c.args.g.now A c.args.track c.args.states.now lines old c.settle.new.states i line c.loop-place.invariant
     (slice_get-get_or lines i none c.loop-place-test.true) (c.in_ok-is_new.ensures.answer.0 yes)
     (c.in_ok-is_new.ensures.value ∙ ap (λ (b : Bool). if b then old ++ settle_state line ∷ [] else old) yes)
 

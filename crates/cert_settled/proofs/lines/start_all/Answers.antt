@@ -45,13 +45,12 @@ returns-then-not-has_all-clause-fault c nodes =
     let g = c.args.g.now in
     let starts = c.args.starts.now in
     let past = c.loop-place-test.false in
-    let is = c.len.ensures in
     let fewer : length starts < length g = elim (cases_lt (length starts) (length g)) [
       | inl below ↦ below
       | inr enough ↦ absurd (false≢true (sym c.if-not-has_all.true ∙ c.has_all.ensures.1 enough))
     ] in (
-      (λ k line below at. (c.loop-place.invariant nodes).right k line (omega (arith, below, past, is)) at),
-      inr (is, fewer),
+      (λ k line below at. (c.loop-place.invariant nodes).right k line (omega (arith, below, past)) at),
+      inr (refl, fewer),
     )
 
 pub returns-clause-value : goal.returns-clause-value
