@@ -1,0 +1,4 @@
+pub mod ChoiceLemmas
+pub mod DecideLemmas
+pub mod RowsLemmas
+pub mod TableLemmas
