@@ -6,6 +6,7 @@
 
 mod board;
 mod due;
+mod firsts;
 mod laws;
 mod nodes;
 mod numbering;

@@ -12,11 +12,11 @@ ghost use Rattle.cert_check.specs.Standing.{IsAtomBase, IsConjunctionBase, IsQua
 
 use crate::board::{Base, Board, Part, automaton_of};
 use crate::due::fault_behind;
+use crate::firsts::{first_and, first_ex};
 use crate::steps::{read_conjunction, read_quantified};
 use cert_parts::atom_table;
 use cert_steps::{Drawing, FaultKind, Stop, wrong_form};
 use cert_text::Line;
-use plain_data::Items;
 use std::alloc::{AllocError, Global};
 use ws2s_core::{FormulaId, Guide, Node, Track};
 
@@ -75,10 +75,10 @@ fn add_atom(
 fn and_line(number: usize, count: usize, lines: &[Line]) -> Result<&[Line], Stop>
     ensures { IfOk result (λ rest. lines.now ≡ Line.And number ∷ rest.now) }
 {
-    let Some((Line::And(named), rest)) = lines.split_first() else {
+    let Some((named, rest)) = first_and(lines) else {
         return Err(wrong_form(lines));
     };
-    named_part(number, count, *named as usize, lines.len())?;
+    named_part(number, count, named as usize, lines.len())?;
     Ok(rest)
 }
 
@@ -86,10 +86,10 @@ fn and_line(number: usize, count: usize, lines: &[Line]) -> Result<&[Line], Stop
 fn ex_line(number: usize, count: usize, lines: &[Line]) -> Result<&[Line], Stop>
     ensures { IfOk result (λ rest. lines.now ≡ Line.Ex number ∷ rest.now) }
 {
-    let Some((Line::Ex(named), rest)) = lines.split_first() else {
+    let Some((named, rest)) = first_ex(lines) else {
         return Err(wrong_form(lines));
     };
-    named_part(number, count, *named as usize, lines.len())?;
+    named_part(number, count, named as usize, lines.len())?;
     Ok(rest)
 }
 
@@ -127,9 +127,11 @@ fn add_conjunction<'a>(
     ensures added { IfOk result (λ rest. AddsBase (IsConjunctionBase g.now drawing.old.nodes.told drawing.new.nodes board.old first.0 second.0
         lines.now rest.now) board.old board.new) }
 {
-    let a = automaton_of(board.bases.as_slice(), board.parts.as_slice(), first);
-    let b = automaton_of(board.bases.as_slice(), board.parts.as_slice(), second);
-    let (base, rest) = read_conjunction(alloc, g, drawing, a, b, lines)?;
+    let bases = board.bases.as_slice();
+    let parts = board.parts.as_slice();
+    let (a, a_negated) = automaton_of(bases, parts, first);
+    let (b, b_negated) = automaton_of(bases, parts, second);
+    let (base, rest) = read_conjunction(alloc, g, drawing, a, a_negated, b, b_negated, lines)?;
     push_base(board, base)?;
     Ok(rest)
 }
@@ -154,8 +156,8 @@ fn add_quantified<'a>(
     ensures added { IfOk result (λ rest. AddsBase (IsQuantifiedBase g.now drawing.old.nodes.told drawing.new.nodes board.old track.0 inner.0
         lines.now rest.now) board.old board.new) }
 {
-    let a = automaton_of(board.bases.as_slice(), board.parts.as_slice(), inner);
-    let (base, rest) = read_quantified(alloc, g, drawing, a, track.0, lines)?;
+    let (a, a_negated) = automaton_of(board.bases.as_slice(), board.parts.as_slice(), inner);
+    let (base, rest) = read_quantified(alloc, g, drawing, a, a_negated, track.0, lines)?;
     push_base(board, base)?;
     Ok(rest)
 }

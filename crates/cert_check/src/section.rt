@@ -1,13 +1,14 @@
 //! Sections of certificates.
 
-ghost use Rattle.std.specs.Prelude.{◌≡◌, ◌++◌, ◌∷◌, [], IsTrue, IfOk, OnOk};
+ghost use Rattle.std.specs.Prelude.{◌≡◌, ◌∷◌, [], length, IsTrue, IfErr, IfOk, OnOk};
 ghost use Rattle.gta_theory.specs.Assignments.{Assignment, IsFinite};
 ghost use Rattle.ws2s_core.specs.Satisfaction.{WSat};
 ghost use Rattle.cert_nodes.specs.Spots.{AreDrawn};
 ghost use Rattle.cert_check.specs.Told.{ShowsNone};
-ghost use Rattle.cert_check.specs.Ending.{IsHead, IsEmpty};
+ghost use Rattle.cert_check.specs.Ending.{IsHead, IsEmpty, IsWithin};
 
-use crate::board::{Base, Board, Part};
+use crate::board::Board;
+use crate::firsts::{first_end, first_section};
 use crate::nodes::check_nodes;
 use crate::numbering::nodes_of;
 use cert_steps::{Drawing, FaultKind, Stop, wrong_form};
@@ -36,7 +37,7 @@ pub enum SectionStop {
 fn read_head(parts: usize, lines: &[Line]) -> Result<&[Line], Stop>
     ensures { IfOk result (λ rest. IsHead parts lines.now rest.now) }
 {
-    let Some((Line::Section(head), rest)) = lines.split_first() else {
+    let Some((head, rest)) = first_section(lines) else {
         return Err(wrong_form(lines));
     };
     if head.parts as usize == parts {
@@ -68,7 +69,7 @@ fn read_end(board: &Board, lines: &[Line]) -> Result<(), Stop>
     ensures lines { OnOk result (lines.now ≡ Line.End ∷ []) }
     ensures empty { OnOk result (IsEmpty board.now) }
 {
-    let Some((Line::End, rest)) = lines.split_first() else {
+    let Some(rest) = first_end(lines) else {
         return Err(wrong_form(lines));
     };
     if !is_empty(board) {
@@ -117,15 +118,33 @@ pub fn check_section(
     lines: &[Line],
 ) -> Result<(), SectionStop>
     ensures shows { OnOk result (ShowsNone g.now f.now lines.now) }
+    ensures fault { IfErr result (IsWithin (length lines.now)) }
     ensures none { OnOk result ((a : Assignment) → IsFinite a → ¬ WSat f.now a) }
 {
     let _spaces = g.spaces();
     match read_section(alloc, f, g, lines) {
         Ok(()) => Ok(()),
-        Err(Stop::Fault(left, kind)) => Err(SectionStop::Refused(CertFault {
-            line: lines.len().saturating_sub(left).saturating_add(1),
-            kind,
-        })),
-        Err(_) => Err(SectionStop::NoMemory),
+        Err(stop) => Err(section_stop(lines.len(), stop)),
     }
+}
+
+/// Why so many lines aren't a section.
+fn section_stop(lines: usize, stop: Stop) -> SectionStop
+    ensures { IsWithin lines result }
+{
+    match stop {
+        Stop::Fault(left, kind) => refused(lines, left, kind),
+        Stop::Open(left) => refused(lines, left, FaultKind::Table),
+        Stop::NoMemory => SectionStop::NoMemory,
+    }
+}
+
+/// A fault of the line at which so many of all lines are left.
+fn refused(lines: usize, left: usize, kind: FaultKind) -> SectionStop
+    ensures { IsWithin lines result }
+{
+    SectionStop::Refused(CertFault {
+        line: lines.saturating_sub(left).saturating_add(1),
+        kind,
+    })
 }

@@ -49,8 +49,10 @@ pub(crate) fn read_conjunction<'a>(
     alloc: Global,
     g: &Guide,
     drawing: &mut Drawing,
-    first: (&Table, bool),
-    second: (&Table, bool),
+    a: &Table,
+    a_negated: bool,
+    b: &Table,
+    b_negated: bool,
     lines: &'a [Line],
 ) -> Result<(Base, &'a [Line]), Stop>
     requires drawn { AreDrawn drawing.old.nodes }
@@ -58,11 +60,9 @@ pub(crate) fn read_conjunction<'a>(
     ensures drawn { OnOk result (AreDrawn drawing.new.nodes) }
     ensures known { OnOk result (drawing.new.greatest ≡ greatests_of drawing.new.nodes.told) }
     ensures atoms { OnOk result (drawing.new.nodes.atoms ≡ drawing.old.nodes.atoms) }
-    ensures found { IfOk result (λ cut. ReadsConjunction g.now drawing.old.nodes.told drawing.new.nodes first.0.now first.1
-        second.0.now second.1 lines.now cut.0 cut.1.now) }
+    ensures found { IfOk result (λ cut. ReadsConjunction g.now drawing.old.nodes.told drawing.new.nodes a.now a_negated
+        b.now b_negated lines.now cut.0 cut.1.now) }
 {
-    let (a, a_negated) = first;
-    let (b, b_negated) = second;
     let (c, left) = read_automaton(alloc, g, drawing, lines)?;
     let (pairs, rest) = read_pairs(alloc, a, b, &c, left)?;
     let nodes = &drawing.nodes;
@@ -82,7 +82,8 @@ pub(crate) fn read_quantified<'a>(
     alloc: Global,
     g: &Guide,
     drawing: &mut Drawing,
-    part: (&Table, bool),
+    a: &Table,
+    a_negated: bool,
     track: u32,
     lines: &'a [Line],
 ) -> Result<(Base, &'a [Line]), Stop>
@@ -91,10 +92,9 @@ pub(crate) fn read_quantified<'a>(
     ensures drawn { OnOk result (AreDrawn drawing.new.nodes) }
     ensures known { OnOk result (drawing.new.greatest ≡ greatests_of drawing.new.nodes.told) }
     ensures atoms { OnOk result (drawing.new.nodes.atoms ≡ drawing.old.nodes.atoms) }
-    ensures found { IfOk result (λ cut. ReadsQuantified g.now drawing.old.nodes.told drawing.new.nodes part.0.now part.1 track
+    ensures found { IfOk result (λ cut. ReadsQuantified g.now drawing.old.nodes.told drawing.new.nodes a.now a_negated track
         lines.now cut.0 cut.1.now) }
 {
-    let (a, a_negated) = part;
     let (c, left) = read_automaton(alloc, g, drawing, lines)?;
     let nodes = &drawing.nodes;
     let (settled, left) = read_settled(alloc, g, nodes, a, track, left)?;

@@ -7,6 +7,7 @@ ghost use Rattle.cert_steps.specs.Places.{AreAccepting};
 ghost use Rattle.cert_steps.specs.Reading.{ReadsAccepting};
 
 use crate::fault::{FaultKind, Stop, wrong_form};
+use crate::firsts::first_accepting;
 use cert_text::Line;
 use plain_data::Items;
 use std::alloc::{AllocError, Global};
@@ -74,7 +75,7 @@ pub(crate) fn read_accepting<'a>(
 ) -> Result<(Items<bool>, &'a [Line]), Stop>
     ensures { IfOk result (λ cut. ReadsAccepting states lines.now cut.0 cut.1.now) }
 {
-    let Some((Line::Accept(accepting), rest)) = lines.split_first() else {
+    let Some((accepting, rest)) = first_accepting(lines) else {
         return Err(wrong_form(lines));
     };
     if let Some(kind) = accepting_fault(states, accepting.as_slice()) {

@@ -5,6 +5,7 @@ ghost use Rattle.cert_steps.specs.Places.{states_in, class_count, AreClassesFrom
 ghost use Rattle.cert_steps.specs.Sides.{side_line, child_of};
 
 use crate::fault::{FaultKind, Stop, wrong_form};
+use crate::firsts::first_classes;
 use cert_text::{ClassLine, Line, SpaceLine};
 use plain_data::at;
 use std::alloc::{AllocError, Global};
@@ -71,17 +72,6 @@ fn class_fault(
     }
 }
 
-/// What a line says of the classes on one side.
-fn side_of(is_right: bool, line: &Line) -> Option<&ClassLine>
-    ensures { MatchOption result (Unit {0}) (λ l. line.now ≡ side_line is_right l.now) }
-{
-    match line {
-        Line::Left(line) => { if is_right { None } else { Some(line) } }
-        Line::Right(line) => { if is_right { Some(line) } else { None } }
-        _ => None,
-    }
-}
-
 /// The line of a space's classes on one side, and what follows it.
 fn class_line<'a>(
     is_right: bool,
@@ -92,10 +82,7 @@ fn class_line<'a>(
 ) -> Result<(&'a ClassLine, &'a [Line]), Stop>
     ensures { IfOk result (λ cut. (lines.now ≡ side_line is_right cut.0.now ∷ cut.1.now) × IsClassLine spaces.now space child cut.0.now) }
 {
-    let Some((first, rest)) = lines.split_first() else {
-        return Err(wrong_form(lines));
-    };
-    let Some(line) = side_of(is_right, first) else {
+    let Some((line, rest)) = first_classes(is_right, lines) else {
         return Err(wrong_form(lines));
     };
     match class_fault(spaces, space, child, line) {

@@ -7,6 +7,7 @@ mod automaton;
 mod classes;
 mod drawing;
 mod fault;
+mod firsts;
 mod pairs;
 mod roots;
 mod rows;

@@ -5,6 +5,7 @@ ghost use Rattle.cert_tables.specs.Orders.{ArePairsInOrder};
 ghost use Rattle.cert_steps.specs.States.{HasState, ArePairsOf, HasStates};
 
 use crate::fault::{FaultKind, Stop};
+use crate::firsts::first_pair;
 use cert_tables::{PairTable, Table, pair_may_follow};
 use cert_text::{Line, PairLine};
 use std::alloc::{AllocError, Global};
@@ -87,8 +88,8 @@ pub fn read_pairs<'a>(
 {
     let mut pairs = PairTable::new(alloc);
     let mut left = lines;
-    while let Some((Line::Pair(line), rest)) = left.split_first() {
-        add_pair(a, b, c, &mut pairs, left.len(), *line)?;
+    while let Some((line, rest)) = first_pair(left) {
+        add_pair(a, b, c, &mut pairs, left.len(), line)?;
         left = rest;
     }
     Ok((pairs, left))

@@ -8,6 +8,7 @@ ghost use Rattle.cert_steps.specs.Reading.{ReadsRoot};
 use crate::classes::count_of;
 use crate::drawing::{Drawing, draw, greatest_at};
 use crate::fault::{FaultKind, Stop, wrong_form};
+use crate::firsts::{first_node, first_root};
 use cert_text::{ClassLine, Line, RootLine, Target};
 
 /// The place of a root: a space with so many states, and a class on each side.
@@ -79,14 +80,14 @@ pub(crate) fn read_root<'a>(
     ensures found { IfOk result (λ cut. ReadsRoot drawing.old.nodes.told drawing.new.nodes.told place lines.now cut.0 cut.1.now) }
 {
     let mut left = lines;
-    while let Some((Line::Node(node), rest)) = left.split_first() {
-        draw(drawing, left.len(), *node)?;
+    while let Some((node, rest)) = first_node(left) {
+        draw(drawing, left.len(), node)?;
         left = rest;
     }
-    let Some((Line::Root(root), rest)) = left.split_first() else {
+    let Some((root, rest)) = first_root(left) else {
         return Err(wrong_form(left));
     };
-    match root_fault(drawing, lefts, rights, place, *root) {
+    match root_fault(drawing, lefts, rights, place, root) {
         None => Ok((root.target, rest)),
         Some(kind) => Err(Stop::Fault(left.len(), kind)),
     }

@@ -7,6 +7,7 @@ ghost use Rattle.cert_steps.specs.States.{state_count, HasMembers, AreSetsOf};
 
 use crate::accepting::{are_below, is_rising};
 use crate::fault::{FaultKind, Stop};
+use crate::firsts::first_set;
 use crate::pairs::has_state;
 use cert_tables::{SetTable, Table, set_may_follow};
 use cert_text::{Line, SetLine};
@@ -101,7 +102,7 @@ pub fn read_sets<'a>(
 {
     let mut sets = SetTable::new(alloc);
     let mut left = lines;
-    while let Some((Line::Set(line), rest)) = left.split_first() {
+    while let Some((line, rest)) = first_set(left) {
         add_set(alloc, a, c, &mut sets, left.len(), line)?;
         left = rest;
     }

@@ -6,6 +6,7 @@ ghost use Rattle.cert_tables.specs.Automata.{table_automaton};
 ghost use Rattle.cert_steps.specs.Settled.{ReadsSettled};
 
 use crate::fault::{FaultKind, Stop, wrong_form};
+use crate::firsts::{first_settle, first_start};
 use crate::pairs::has_state;
 use cert_nodes::Diagrams;
 use cert_settled::{SettleFault, SettledStates, settle_all};
@@ -26,10 +27,10 @@ fn read_starts<'a>(
     let mut starts = Items::new(alloc);
     let mut left = lines;
     for _space in 0..most {
-        let Some((Line::Start(line), rest)) = left.split_first() else {
+        let Some((line, rest)) = first_start(left) else {
             return Ok((starts, left));
         };
-        starts.push(*line)?;
+        starts.push(line)?;
         left = rest;
     }
     Ok((starts, left))
@@ -44,8 +45,8 @@ fn read_settles<'a>(
 {
     let mut settles = Items::new(alloc);
     let mut left = lines;
-    while let Some((Line::Settle(line), rest)) = left.split_first() {
-        settles.push(*line)?;
+    while let Some((line, rest)) = first_settle(left) {
+        settles.push(line)?;
         left = rest;
     }
     Ok((settles, left))

@@ -4,6 +4,7 @@ ghost use Rattle.std.specs.Prelude.{◌≡◌, ◌∷◌, ◌++◌, length, map,
 ghost use Rattle.cert_steps.specs.Places.{IsSpaceLine, AreSpaceLines};
 
 use crate::fault::{FaultKind, Stop, wrong_form};
+use crate::firsts::first_space;
 use cert_text::{Line, SpaceLine};
 use plain_data::Items;
 use std::alloc::{AllocError, Global};
@@ -29,11 +30,11 @@ fn space_line<'a>(
 ) -> Result<(SpaceLine, &'a [Line]), Stop>
     ensures { IfOk result (λ cut. (lines.now ≡ Line.Space cut.0 ∷ cut.1.now) × IsSpaceLine space cut.0) }
 {
-    let Some((Line::Space(line), rest)) = lines.split_first() else {
+    let Some((line, rest)) = first_space(lines) else {
         return Err(wrong_form(lines));
     };
-    match space_fault(spaces, space, *line) {
-        None => Ok((*line, rest)),
+    match space_fault(spaces, space, line) {
+        None => Ok((line, rest)),
         Some(kind) => Err(Stop::Fault(lines.len(), kind)),
     }
 }
