@@ -17,7 +17,7 @@ use Rattle.cert_tables.specs.PairKeys.{named_pair}
 use Rattle.cert_tables.specs.SetKeys.{named_set}
 use Rattle.cert_settled.specs.Settled.{AreSettling}
 use Rattle.cert_steps.specs.Reading.{ReadsAutomaton}
-use Rattle.cert_steps.specs.States.{ArePairsOf, AreSetsOf}
+use Rattle.cert_lists.specs.States.{ArePairsOf, AreSetsOf}
 use Rattle.cert_check.specs.declared.board.Base.{Base}
 use Rattle.cert_check.specs.Reached.{NoPairSays, NoSetSays}
 

@@ -5,4 +5,3 @@ pub mod RowsLemmas
 pub mod SpacesLemmas
 pub mod AcceptingLemmas
 pub mod AutomatonLemmas
-pub mod StatesLemmas

@@ -2,5 +2,3 @@ pub mod Steps
 pub mod Places
 pub mod Sides
 pub mod Reading
-pub mod States
-pub mod Settled

@@ -12,8 +12,8 @@ use cert_text::Line;
 use plain_data::Items;
 use std::alloc::{AllocError, Global};
 
-/// Whether numbers rise.
-pub(crate) fn is_rising(numbers: &[u32]) -> bool
+/// Whether numbers rise. Takes no memory.
+pub fn is_rising(numbers: &[u32]) -> bool
     ensures { IsTrue result ↔ IsStrictlyIncreasing numbers.now }
 {
     for place in 1..numbers.len() {
@@ -24,8 +24,8 @@ pub(crate) fn is_rising(numbers: &[u32]) -> bool
     true
 }
 
-/// Whether numbers are below a number.
-pub(crate) fn are_below(numbers: &[u32], end: u32) -> bool
+/// Whether numbers are below a number. Takes no memory.
+pub fn are_below(numbers: &[u32], end: u32) -> bool
     ensures { IsTrue result ↔ EachIndex numbers.now (λ k. slice_index numbers.now k < end) }
 {
     numbers.iter().all(|number| *number < end)

@@ -3,9 +3,7 @@
 ghost use Rattle.std.specs.Prelude.{◌≡◌, ◌∷◌, MatchOption};
 ghost use Rattle.cert_steps.specs.Sides.{side_line};
 
-use cert_text::{
-    ClassLine, Line, NodeLine, NumberList, PairLine, RootLine, SetLine, SettleLine, SpaceLine, StartLine,
-};
+use cert_text::{ClassLine, Line, NodeLine, NumberList, RootLine, SpaceLine};
 
 /// The line of a space's states that stands first, and what follows it.
 pub(crate) fn first_space(lines: &[Line]) -> Option<(SpaceLine, &[Line])>
@@ -36,50 +34,6 @@ pub(crate) fn first_root(lines: &[Line]) -> Option<(RootLine, &[Line])>
     let (first, rest) = lines.split_first()?;
     match first {
         Line::Root(line) => Some((*line, rest)),
-        _ => None,
-    }
-}
-
-/// The line of a pair that stands first, and what follows it.
-pub(crate) fn first_pair(lines: &[Line]) -> Option<(PairLine, &[Line])>
-    ensures { MatchOption result (Unit {0}) (λ cut. lines.now ≡ Line.Pair cut.0 ∷ cut.1.now) }
-{
-    let (first, rest) = lines.split_first()?;
-    match first {
-        Line::Pair(line) => Some((*line, rest)),
-        _ => None,
-    }
-}
-
-/// The line of an initial state that stands first, and what follows it.
-pub(crate) fn first_start(lines: &[Line]) -> Option<(StartLine, &[Line])>
-    ensures { MatchOption result (Unit {0}) (λ cut. lines.now ≡ Line.Start cut.0 ∷ cut.1.now) }
-{
-    let (first, rest) = lines.split_first()?;
-    match first {
-        Line::Start(line) => Some((*line, rest)),
-        _ => None,
-    }
-}
-
-/// The line of a state that settles that stands first, and what follows it.
-pub(crate) fn first_settle(lines: &[Line]) -> Option<(SettleLine, &[Line])>
-    ensures { MatchOption result (Unit {0}) (λ cut. lines.now ≡ Line.Settle cut.0 ∷ cut.1.now) }
-{
-    let (first, rest) = lines.split_first()?;
-    match first {
-        Line::Settle(line) => Some((*line, rest)),
-        _ => None,
-    }
-}
-
-/// The line of a set that stands first, and what follows it.
-pub(crate) fn first_set(lines: &[Line]) -> Option<(&SetLine, &[Line])>
-    ensures { MatchOption result (Unit {0}) (λ cut. lines.now ≡ Line.Set cut.0.now ∷ cut.1.now) }
-{
-    let (first, rest) = lines.split_first()?;
-    match first {
-        Line::Set(line) => Some((line, rest)),
         _ => None,
     }
 }

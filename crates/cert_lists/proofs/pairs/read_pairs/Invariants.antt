@@ -1,7 +1,7 @@
 use Rattle.std.proofs.Common.{length, ◌≡◌, ◌++◌, map}
 use Rattle.cert_text.specs.declared.line.Line.TheVariants as line
-use Rattle.cert_steps.specs.States.{ArePairsOf}
-use Rattle.cert_steps.proofs.pairs.read_pairs.Given as goal
+use Rattle.cert_lists.specs.States.{ArePairsOf}
+use Rattle.cert_lists.proofs.pairs.read_pairs.Given as goal
 
 abbrev pub invariant-loop-line : goal.invariant-loop-line
 invariant-loop-line l = (l.fn.lines ≡ map line.Pair l.pairs ++ l.left) × ArePairsOf l.a l.b l.c l.pairs

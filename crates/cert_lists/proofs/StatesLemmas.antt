@@ -9,7 +9,7 @@ use Rattle.cert_text.specs.declared.line.SetLine.{SetLine}
 use Rattle.cert_tables.specs.declared.table.Table.{Table}
 use Rattle.cert_tables.specs.Orders.{ArePairsInOrder, AreSetsInOrder}
 use Rattle.cert_tables.specs.SetKeys.{AreSets}
-use Rattle.cert_steps.specs.States.{HasStates, ArePairsOf, HasMembers, AreSetsOf}
+use Rattle.cert_lists.specs.States.{HasStates, ArePairsOf, HasMembers, AreSetsOf}
 
 module _ (a b c : Table) where
   pub pairs-none : ArePairsOf a b c []

@@ -3,12 +3,11 @@
 ghost use Rattle.std.specs.Prelude.{◌≡◌, ◌↔◌, ◌∷◌, [], ◌++◌, map, length, slice_index, EachIndex, IfOk, OnOk, IsTrue, MatchOption};
 ghost use Rattle.std.specs.List.Sorted.{IsStrictlyIncreasing};
 ghost use Rattle.cert_tables.specs.Orders.{AreSetsInOrder};
-ghost use Rattle.cert_steps.specs.States.{state_count, HasMembers, AreSetsOf};
+ghost use Rattle.cert_lists.specs.States.{state_count, HasMembers, AreSetsOf};
 
-use crate::accepting::{are_below, is_rising};
-use crate::fault::{FaultKind, Stop};
 use crate::firsts::first_set;
 use crate::pairs::has_state;
+use cert_steps::{FaultKind, Stop, are_below, is_rising};
 use cert_tables::{SetTable, Table, set_may_follow};
 use cert_text::{Line, SetLine};
 use plain_data::Items;

@@ -2,10 +2,10 @@
 
 ghost use Rattle.std.specs.Prelude.{◌≡◌, ◌↔◌, ◌∷◌, [], ◌++◌, map, IfOk, OnOk, IsTrue, MatchOption};
 ghost use Rattle.cert_tables.specs.Orders.{ArePairsInOrder};
-ghost use Rattle.cert_steps.specs.States.{HasState, ArePairsOf, HasStates};
+ghost use Rattle.cert_lists.specs.States.{HasState, ArePairsOf, HasStates};
 
-use crate::fault::{FaultKind, Stop};
 use crate::firsts::first_pair;
+use cert_steps::{FaultKind, Stop};
 use cert_tables::{PairTable, Table, pair_may_follow};
 use cert_text::{Line, PairLine};
 use std::alloc::{AllocError, Global};

@@ -3,13 +3,14 @@
 ghost use Rattle.std.specs.Prelude.{◌≡◌, ◌++◌, map, IfOk};
 ghost use Rattle.cert_nodes.specs.Spots.{AreDrawn};
 ghost use Rattle.cert_tables.specs.Automata.{table_automaton};
-ghost use Rattle.cert_steps.specs.Settled.{ReadsSettled};
+ghost use Rattle.cert_lists.specs.Settled.{ReadsSettled};
 
-use crate::fault::{FaultKind, Stop, wrong_form};
+
 use crate::firsts::{first_settle, first_start};
 use crate::pairs::has_state;
 use cert_nodes::Diagrams;
 use cert_settled::{SettleFault, SettledStates, settle_all};
+use cert_steps::{FaultKind, Stop, wrong_form};
 use cert_tables::Table;
 use cert_text::{Line, SettleLine, StartLine};
 use plain_data::Items;
