@@ -4,5 +4,6 @@ pub mod GrowingLemmas
 pub mod StagesLemmas
 pub mod StandingLemmas
 pub mod FormsLemmas
+pub mod BoardLemmas
 pub mod EndingLemmas
 pub mod SettlingLemmas

@@ -15,7 +15,7 @@ use crate::due::fault_behind;
 use crate::firsts::{first_and, first_ex};
 use crate::steps::{read_conjunction, read_quantified};
 use cert_parts::atom_table;
-use cert_steps::{Drawing, FaultKind, Stop, wrong_form};
+use cert_steps::{Drawing, FaultKind, Stop, lines_from, wrong_form};
 use cert_text::Line;
 use std::alloc::{AllocError, Global};
 use ws2s_core::{FormulaId, Guide, Node, Track};
@@ -188,11 +188,13 @@ fn check_node<'a>(
     match node {
         Node::And(first, second) => {
             let left = and_line(number, count, lines)?;
-            add_conjunction(alloc, g, drawing, board, first, second, left)
+            let rest = add_conjunction(alloc, g, drawing, board, first, second, left)?;
+            Ok(rest)
         }
         Node::Ex2(track, inner) => {
             let left = ex_line(number, count, lines)?;
-            add_quantified(alloc, g, drawing, board, track, inner, left)
+            let rest = add_quantified(alloc, g, drawing, board, track, inner, left)?;
+            Ok(rest)
         }
         Node::Not(inner) => {
             push_negation(board, inner)?;
@@ -236,8 +238,8 @@ pub(crate) fn check_nodes<'a>(
 fn located(nodes: &[Node], number: usize, lines: &[Line], stop: Stop) -> Stop {
     match stop {
         Stop::Open(left) => {
-            let behind = lines.get(lines.len().saturating_sub(left)..).unwrap_or(&[]);
-            let later = nodes.get(number.saturating_add(1)..).unwrap_or(&[]);
+            let behind = lines_from(lines, lines.len().saturating_sub(left));
+            let (_, later) = nodes.split_at(number.saturating_add(1).min(nodes.len()));
             fault_behind(later, nodes.len(), behind)
         }
         other => other,

@@ -10,7 +10,7 @@ use crate::firsts::{first_settle, first_start};
 use crate::pairs::has_state;
 use cert_nodes::Diagrams;
 use cert_settled::{SettleFault, SettledStates, settle_all};
-use cert_steps::{FaultKind, Stop, wrong_form};
+use cert_steps::{FaultKind, Stop, lines_from, wrong_form};
 use cert_tables::Table;
 use cert_text::{Line, SettleLine, StartLine};
 use plain_data::Items;
@@ -111,7 +111,7 @@ fn settle_stop(
             let left = all.len().saturating_sub(place);
             match start_kind(a, lines.starts.as_slice(), place) {
                 Some(kind) => Stop::Fault(left, kind),
-                None => wrong_form(all.get(place..).unwrap_or(&[])),
+                None => wrong_form(lines_from(all, place)),
             }
         }
         SettleFault::Settle(place) => {

@@ -49,3 +49,9 @@ pub fn wrong_form(lines: &[Line]) -> Stop {
         left => Stop::Fault(left, FaultKind::Syntax),
     }
 }
+
+/// The lines from a place on; none past the last one.
+pub fn lines_from(lines: &[Line], place: usize) -> &[Line] {
+    let (_, rest) = lines.split_at(place.min(lines.len()));
+    rest
+}

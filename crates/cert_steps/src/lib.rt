@@ -15,4 +15,4 @@ mod spaces;
 pub use accepting::{are_below, is_rising};
 pub use automaton::read_automaton;
 pub use drawing::Drawing;
-pub use fault::{FaultKind, Stop, wrong_form};
+pub use fault::{FaultKind, Stop, lines_from, wrong_form};
