@@ -84,23 +84,43 @@ pub record IsAtom (node : Node) : Type 0 where
 
 atom-facts : (g : Spaces) (atom : Node) → IsAtom atom → AtomFacts g atom
 atom-facts g (Node.Sub x y) is = record {
-  lines = λ k. refl; stage = λ parts. refl; tells = λ drawn. tt; in_place = λ stages drawn. tt; told_there = λ told. tt;
+  lines = λ k. refl;
+  stage = λ parts. refl;
+  tells = λ drawn. tt;
+  in_place = λ stages drawn. tt;
+  told_there = λ told. tt;
   reached = λ parts part base accepts rejects. (accepts, rejects);
 }
 atom-facts g (Node.Single x) is = record {
-  lines = λ k. refl; stage = λ parts. refl; tells = λ drawn. tt; in_place = λ stages drawn. tt; told_there = λ told. tt;
+  lines = λ k. refl;
+  stage = λ parts. refl;
+  tells = λ drawn. tt;
+  in_place = λ stages drawn. tt;
+  told_there = λ told. tt;
   reached = λ parts part base accepts rejects. (accepts, rejects);
 }
 atom-facts g (Node.Succ0 x y) is = record {
-  lines = λ k. refl; stage = λ parts. refl; tells = λ drawn. tt; in_place = λ stages drawn. tt; told_there = λ told. tt;
+  lines = λ k. refl;
+  stage = λ parts. refl;
+  tells = λ drawn. tt;
+  in_place = λ stages drawn. tt;
+  told_there = λ told. tt;
   reached = λ parts part base accepts rejects. (accepts, rejects);
 }
 atom-facts g (Node.Succ1 x y) is = record {
-  lines = λ k. refl; stage = λ parts. refl; tells = λ drawn. tt; in_place = λ stages drawn. tt; told_there = λ told. tt;
+  lines = λ k. refl;
+  stage = λ parts. refl;
+  tells = λ drawn. tt;
+  in_place = λ stages drawn. tt;
+  told_there = λ told. tt;
   reached = λ parts part base accepts rejects. (accepts, rejects);
 }
 atom-facts g (Node.Root x) is = record {
-  lines = λ k. refl; stage = λ parts. refl; tells = λ drawn. tt; in_place = λ stages drawn. tt; told_there = λ told. tt;
+  lines = λ k. refl;
+  stage = λ parts. refl;
+  tells = λ drawn. tt;
+  in_place = λ stages drawn. tt;
+  told_there = λ told. tt;
   reached = λ parts part base accepts rejects. (accepts, rejects);
 }
 atom-facts g (Node.And f h) is = absurd (is.not_and f h refl)
@@ -268,9 +288,10 @@ module _ (g : Spaces) (nodes : List Node) (d e : Diagrams) (old new : Board) (k 
       (Node.And f h) adds.base below (added-at (IsConjunctionBase g d.told e old f.0 h.0 left rest) old new adds)
       (base-agrees g d.told e left (map line.Pair reads.pairs ++ rest) reads.table automaton adds.base base_is)
       (base-there g d.told e left (map line.Pair reads.pairs ++ rest) reads.table automaton adds.base base_is)
-      automaton.told_there leads (refl, refl) (placed, (reads.fits).in_order)
-      (says-pairs reads.table adds.base true (adds.base).never_accepts reads.pairs base_is (reads.is_base).accepts,
-      says-pairs reads.table adds.base false (adds.base).never_rejects reads.pairs base_is (reads.is_base).rejects))
+      automaton.told_there leads (refl, refl) (placed, (reads.fits).in_order) (
+        says-pairs reads.table adds.base true (adds.base).never_accepts reads.pairs base_is (reads.is_base).accepts,
+        says-pairs reads.table adds.base false (adds.base).never_rejects reads.pairs base_is (reads.is_base).rejects,
+      ))
 
   pub quantified-stands : (t : Track) (f : FormulaId) → HasPartsBelow k (Node.Ex2 t f) → slice_get nodes k ≡ Some (Node.Ex2 t f) →
       lines ≡ line.Ex k ∷ left → AddsBase (IsQuantifiedBase g d.told e old t.0 f.0 left rest) old new → Stands g nodes e new (k + 1) body rest
@@ -302,9 +323,10 @@ module _ (g : Spaces) (nodes : List Node) (d e : Diagrams) (old new : Board) (k 
       (Node.Ex2 t f) adds.base below (added-at (IsQuantifiedBase g d.told e old t.0 f.0 left rest) old new adds)
       (base-agrees g d.told e left (behind reads.starts reads.settles reads.sets) reads.table automaton adds.base base_is)
       (base-there g d.told e left (behind reads.starts reads.settles reads.sets) reads.table automaton adds.base base_is)
-      automaton.told_there leads (refl, refl) (placed, settling, (reads.fits).in_order, (reads.fits).once)
-      (says-sets reads.table adds.base true (adds.base).never_accepts reads.sets base_is (reads.is_base).accepts,
-      says-sets reads.table adds.base false (adds.base).never_rejects reads.sets base_is (reads.is_base).rejects))
+      automaton.told_there leads (refl, refl) (placed, settling, (reads.fits).in_order, (reads.fits).once) (
+        says-sets reads.table adds.base true (adds.base).never_accepts reads.sets base_is (reads.is_base).accepts,
+        says-sets reads.table adds.base false (adds.base).never_rejects reads.sets base_is (reads.is_base).rejects,
+      ))
     where
       behind : List StartLine → List SettleLine → List SetLine → List Line
       behind starts settles sets = map line.Start starts ++ (map line.Settle settles ++ (map line.Set sets ++ rest))

@@ -64,11 +64,14 @@ fn add_atom(
     ensures added { OnOk result (AddsBase (IsAtomBase g.now drawing.new.nodes atom) board.old board.new) }
 {
     let table = atom_table(alloc, g, &mut drawing.nodes.atoms, atom)?;
-    push_base(board, Base {
-        table,
-        never_accepts: false,
-        never_rejects: false,
-    })
+    push_base(
+        board,
+        Base {
+            table,
+            never_accepts: false,
+            never_rejects: false,
+        },
+    )
 }
 
 /// What follows the first line of the step on a conjunction.

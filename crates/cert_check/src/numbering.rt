@@ -8,11 +8,7 @@ use std::alloc::{AllocError, Global};
 use ws2s_core::{Formula, FormulaId, Interner, Node, intern};
 
 /// The forms of formulas with the numbers 0, 1 and so on.
-fn forms(
-    alloc: Global,
-    interner: &Interner,
-    ids: &[FormulaId],
-) -> Result<Items<Node>, AllocError>
+fn forms(alloc: Global, interner: &Interner, ids: &[FormulaId]) -> Result<Items<Node>, AllocError>
     ensures { IfOk result (AreForms interner.now ids.now) }
 {
     let mut nodes = Items::new(alloc);

@@ -7,8 +7,8 @@ ghost use Rattle.cert_check.specs.Reading.{IsBaseOfPairs, IsBaseOfSets, ReadsCon
 
 use crate::board::Base;
 use crate::reached::{no_pair_says, no_set_says};
-use cert_settled::lead_to_quantified;
 use cert_lists::{read_pairs, read_sets, read_settled};
+use cert_settled::lead_to_quantified;
 use cert_steps::{Drawing, Stop, read_automaton};
 use cert_tables::{PairTable, SetTable, Table, lead_to_conjunction};
 use cert_text::Line;

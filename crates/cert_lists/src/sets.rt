@@ -32,12 +32,7 @@ fn has_members(a: &Table, c: &Table, line: &SetLine) -> bool
 }
 
 /// What is wrong with a set behind others, but that it may stand there already.
-fn set_fault(
-    a: &Table,
-    c: &Table,
-    sets: &SetTable,
-    line: &SetLine,
-) -> Option<FaultKind>
+fn set_fault(a: &Table, c: &Table, sets: &SetTable, line: &SetLine) -> Option<FaultKind>
     requires { AreSetsInOrder sets.now }
     ensures { MatchOption result (HasMembers a.now c.now line.now × IsStrictlyIncreasing line.now.members
         × AreSetsInOrder (sets.now ++ line.now ∷ []))

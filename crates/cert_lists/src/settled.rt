@@ -5,7 +5,6 @@ ghost use Rattle.cert_nodes.specs.Spots.{AreDrawn};
 ghost use Rattle.cert_tables.specs.Automata.{table_automaton};
 ghost use Rattle.cert_lists.specs.Settled.{ReadsSettled};
 
-
 use crate::firsts::{first_settle, first_start};
 use crate::pairs::has_state;
 use cert_nodes::Diagrams;
@@ -55,8 +54,12 @@ fn read_settles<'a>(
 
 /// Whether lines tell a state.
 fn is_told(starts: &[StartLine], settles: &[SettleLine], space: u32, state: u32) -> bool {
-    starts.iter().any(|line| line.space == space && line.state == state)
-        || settles.iter().any(|line| line.space == space && line.state == state)
+    starts
+        .iter()
+        .any(|line| line.space == space && line.state == state)
+        || settles
+            .iter()
+            .any(|line| line.space == space && line.state == state)
 }
 
 /// The lines of settled states, as they stand.
@@ -116,7 +119,10 @@ fn settle_stop(
         }
         SettleFault::Settle(place) => {
             let before = lines.starts.len().saturating_add(place);
-            Stop::Fault(all.len().saturating_sub(before), settle_kind(g, a, lines, place))
+            Stop::Fault(
+                all.len().saturating_sub(before),
+                settle_kind(g, a, lines, place),
+            )
         }
         SettleFault::Open => Stop::Open(behind.len()),
         SettleFault::NoMemory => Stop::NoMemory,

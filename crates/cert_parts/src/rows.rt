@@ -28,12 +28,7 @@ fn cell(nodes: &mut NodeTable, atom: Node, p: u32, q: u32) -> Result<Target, All
 }
 
 /// Where a state of the left child leads to with each of the right one.
-fn row(
-    alloc: Global,
-    nodes: &mut NodeTable,
-    atom: Node,
-    p: u32,
-) -> Result<TargetList, AllocError>
+fn row(alloc: Global, nodes: &mut NodeTable, atom: Node, p: u32) -> Result<TargetList, AllocError>
     requires { AreNodes nodes.old }
     ensures drawn { AreNodes nodes.new }
     ensures grown { OnOk result (Extends nodes.old nodes.new) }
@@ -65,10 +60,7 @@ pub(crate) fn rows(
 }
 
 /// A copy of rows.
-pub(crate) fn copy_rows(
-    alloc: Global,
-    rows: &[TargetList],
-) -> Result<Items<TargetList>, AllocError>
+pub(crate) fn copy_rows(alloc: Global, rows: &[TargetList]) -> Result<Items<TargetList>, AllocError>
     ensures { IfOk result (λ copy. copy ≡ rows.now) }
 {
     let mut copy = Items::new(alloc);

@@ -30,11 +30,7 @@ fn numbers(alloc: Global, count: u32) -> Result<NumberList, AllocError>
 }
 
 /// The automaton in one space: each state is a class of its own.
-fn space_table(
-    alloc: Global,
-    count: u32,
-    rows: &[TargetList],
-) -> Result<SpaceTable, AllocError>
+fn space_table(alloc: Global, count: u32, rows: &[TargetList]) -> Result<SpaceTable, AllocError>
     ensures { IfOk result (IsSpaceOf count rows.now) }
 {
     Ok(SpaceTable {

@@ -49,16 +49,16 @@ module _ (states s c : ℕ) where
       IsRootAt ((nodes ++ nodes_of_row row) ++ r.nodes) states s c (d + length row) r.root → AreRootsFrom nodes states s c d (row ++ r ∷ [])
   roots-from-push nodes d [] r are here = (
     subst (λ (n : ℕ). IsRootAt (nodes ++ r.nodes) states s c n r.root) (let e : d + 0 ≡ d = omega arith in e)
-    (subst (λ (ns : List NodeLine). IsRootAt (ns ++ r.nodes) states s c (d + 0) r.root) (append-nil nodes) here),
+        (subst (λ (ns : List NodeLine). IsRootAt (ns ++ r.nodes) states s c (d + 0) r.root) (append-nil nodes) here),
     tt,
   )
   roots-from-push nodes d (x ∷ row) r are here = (
     are.0,
     roots-from-push (nodes ++ x.nodes) (suc d) row r are.1
-    (subst (λ (n : ℕ). IsRootAt (((nodes ++ x.nodes) ++ nodes_of_row row) ++ r.nodes) states s c n r.root)
-    (let e : d + suc (length row) ≡ suc d + length row = omega arith in e)
-    (subst (λ (ns : List NodeLine). IsRootAt (ns ++ r.nodes) states s c (d + suc (length row)) r.root)
-    (sym (append_assoc nodes x.nodes (nodes_of_row row))) here)),
+        (subst (λ (n : ℕ). IsRootAt (((nodes ++ x.nodes) ++ nodes_of_row row) ++ r.nodes) states s c n r.root)
+        (let e : d + suc (length row) ≡ suc d + length row = omega arith in e)
+        (subst (λ (ns : List NodeLine). IsRootAt (ns ++ r.nodes) states s c (d + suc (length row)) r.root)
+        (sym (append_assoc nodes x.nodes (nodes_of_row row))) here)),
   )
 
   pub roots-none : (old : List NodeLine) (lines : List Line) → ReadsRoots old old states s c 0 lines [] lines

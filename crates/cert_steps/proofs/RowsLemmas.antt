@@ -16,16 +16,16 @@ module _ (states s count : ℕ) where
       IsRow (nodes ++ nodes_of_rows rows) states s (c + length rows) count row → AreRowsFrom nodes states s c count (rows ++ row ∷ [])
   rows-from-push nodes c [] row are here = (
     subst (λ (n : ℕ). IsRow nodes states s n count row) (let e : c + 0 ≡ c = omega arith in e)
-    (subst (λ (ns : List NodeLine). IsRow ns states s (c + 0) count row) (append-nil nodes) here),
+        (subst (λ (ns : List NodeLine). IsRow ns states s (c + 0) count row) (append-nil nodes) here),
     tt,
   )
   rows-from-push nodes c (x ∷ rows) row are here = (
     are.0,
     rows-from-push (nodes ++ nodes_of_row x) (suc c) rows row are.1
-    (subst (λ (n : ℕ). IsRow ((nodes ++ nodes_of_row x) ++ nodes_of_rows rows) states s n count row)
-    (let e : c + suc (length rows) ≡ suc c + length rows = omega arith in e)
-    (subst (λ (ns : List NodeLine). IsRow ns states s (c + suc (length rows)) count row)
-    (sym (append_assoc nodes (nodes_of_row x) (nodes_of_rows rows))) here)),
+        (subst (λ (n : ℕ). IsRow ((nodes ++ nodes_of_row x) ++ nodes_of_rows rows) states s n count row)
+        (let e : c + suc (length rows) ≡ suc c + length rows = omega arith in e)
+        (subst (λ (ns : List NodeLine). IsRow ns states s (c + suc (length rows)) count row)
+        (sym (append_assoc nodes (nodes_of_row x) (nodes_of_rows rows))) here)),
   )
 
   pub rows-none : (old : List NodeLine) (lines : List Line) → ReadsRows old old states s 0 count lines [] lines

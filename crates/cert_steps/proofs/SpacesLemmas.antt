@@ -32,15 +32,15 @@ spaces-rows-push nodes (s ∷ spaces) (x ∷ lefts) (y ∷ rights) [] space l r 
     let of_l : l ≡ x = cc in
     let of_r : r ≡ y = cc in (
       subst (λ (k : SpaceLine). AreRowsOf nodes k x y rows) of_space
-      (subst (λ (k : ClassLine). AreRowsOf nodes space k y rows) of_l
-      (subst (λ (k : ClassLine). AreRowsOf nodes space l k rows) of_r
-      (subst (λ (ns : List NodeLine). AreRowsOf ns space l r rows) (append-nil nodes) here))),
+          (subst (λ (k : ClassLine). AreRowsOf nodes space k y rows) of_l
+          (subst (λ (k : ClassLine). AreRowsOf nodes space l k rows) of_r
+          (subst (λ (ns : List NodeLine). AreRowsOf ns space l r rows) (append-nil nodes) here))),
       tt,
     )
 spaces-rows-push nodes (s ∷ spaces) (x ∷ lefts) (y ∷ rights) (z ∷ roots) space l r rows at_space at_l at_r are here = (
   are.0,
   spaces-rows-push (nodes ++ nodes_of_rows z) spaces lefts rights roots space l r rows at_space at_l at_r are.1
-  (subst (λ (ns : List NodeLine). AreRowsOf ns space l r rows) (sym (append_assoc nodes (nodes_of_rows z) (flat_map nodes_of_rows roots))) here),
+      (subst (λ (ns : List NodeLine). AreRowsOf ns space l r rows) (sym (append_assoc nodes (nodes_of_rows z) (flat_map nodes_of_rows roots))) here),
 )
 
 told-push : (spaces : List SpaceLine) (lefts rights : List ClassLine) (roots : List (List (List Rooted)))

@@ -54,12 +54,7 @@ pub(crate) fn states_in(spaces: &[SpaceLine], space: u32) -> u32
 }
 
 /// What is wrong with the line of a space's classes.
-fn class_fault(
-    spaces: &[SpaceLine],
-    space: u32,
-    child: u32,
-    line: &ClassLine,
-) -> Option<FaultKind>
+fn class_fault(spaces: &[SpaceLine], space: u32, child: u32, line: &ClassLine) -> Option<FaultKind>
     ensures { MatchOption result (IsClassLine spaces.now space child line.now) (λ kind. ¬ IsClassLine spaces.now space child line.now) }
 {
     let is_long = line.classes.len() == states_in(spaces, child) as usize;

@@ -62,7 +62,10 @@ fn read_rows<'a>(
     let mut rows = Items::new(alloc);
     let mut left = lines;
     for class in 0..place.left {
-        let row = RootPlace { left: class, ..place };
+        let row = RootPlace {
+            left: class,
+            ..place
+        };
         let (targets, rest) = read_row(alloc, drawing, lefts, rights, row, place.right, left)?;
         rows.push(targets)?;
         left = rest;

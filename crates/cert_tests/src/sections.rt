@@ -101,8 +101,14 @@ end
 #[test]
 fn accepting_states_and_missing_pairs_are_refused(rt: HostRuntime) -> Result<(), Fail> {
     let f = contradiction(rt.alloc())?;
-    assert_eq!(rt; said(rt.alloc(), &f, ACCEPTS)?, Said::Refused(11, FaultKind::Table));
-    assert_eq!(rt; said(rt.alloc(), &f, SHORT)?, Said::Refused(10, FaultKind::Table));
+    assert_eq!(rt;
+        said(rt.alloc(), &f, ACCEPTS)?,
+        Said::Refused(11, FaultKind::Table)
+    );
+    assert_eq!(rt;
+        said(rt.alloc(), &f, SHORT)?,
+        Said::Refused(10, FaultKind::Table)
+    );
     Ok(())
 }
 
@@ -136,6 +142,9 @@ fn states_that_do_not_settle_are_refused(rt: HostRuntime) -> Result<(), Fail> {
     let f = never(rt.alloc())?;
     assert_eq!(rt; said(rt.alloc(), &f, LEAST)?, Said::Accepted);
     let always = Formula::not(rt.alloc(), never(rt.alloc())?)?;
-    assert_eq!(rt; said(rt.alloc(), &always, TOO_LARGE)?, Said::Refused(9, FaultKind::Table));
+    assert_eq!(rt;
+        said(rt.alloc(), &always, TOO_LARGE)?,
+        Said::Refused(9, FaultKind::Table)
+    );
     Ok(())
 }
