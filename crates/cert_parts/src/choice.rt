@@ -130,7 +130,7 @@ fn succ_choice(p: u32, q: u32) -> Choice
 }
 
 /// The state of an atom after two states of its children; 0 for another form.
-pub(crate) fn choice(atom: Node, p: u32, q: u32) -> Choice
+pub(crate) fn choice_at(atom: Node, p: u32, q: u32) -> Choice
     ensures { result ≡ choice_of atom p q }
 {
     match atom {

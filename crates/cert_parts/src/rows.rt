@@ -7,7 +7,7 @@ ghost use Rattle.cert_theory.specs.Sections.{atom_states};
 ghost use Rattle.cert_parts.specs.Atoms.{atom_function};
 ghost use Rattle.cert_parts.specs.Leading.{LeadsTo, AreCells, AreRows};
 
-use crate::choice::{choice, states, tracks};
+use crate::choice::{choice_at, states, tracks};
 use crate::decide::choose_by;
 use cert_nodes::NodeTable;
 use cert_tables::TargetList;
@@ -24,7 +24,7 @@ fn cell(nodes: &mut NodeTable, atom: Node, p: u32, q: u32) -> Result<Target, All
     ensures leads { IfOk result (λ t. LeadsTo nodes.new t (atom_function atom p q)) }
 {
     let (x, y) = tracks(atom);
-    choose_by(nodes, x, y, choice(atom, p, q))
+    choose_by(nodes, x, y, choice_at(atom, p, q))
 }
 
 /// Where a state of the left child leads to with each of the right one.

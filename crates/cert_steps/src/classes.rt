@@ -1,6 +1,6 @@
 //! The lines of the classes of child spaces' states.
 
-ghost use Rattle.std.specs.Prelude.{◌≡◌, ◌↔◌, ◌∷◌, ◌++◌, ◌+◌, max, length, map, IfOk, IsTrue, MatchOption};
+ghost use Rattle.std.specs.Prelude.{◌≡◌, ◌↔◌, ◌∷◌, [], ◌++◌, ◌+◌, max, length, map, IfOk, OnOk, IsTrue, MatchOption};
 ghost use Rattle.cert_steps.specs.Places.{states_in, class_count, AreClassesFrom, IsClassLine, AreClassLines};
 ghost use Rattle.cert_steps.specs.Sides.{side_line, child_of};
 
@@ -86,6 +86,14 @@ fn class_line<'a>(
     }
 }
 
+/// Puts a line behind others.
+fn push_line<'a>(lines: &mut Vec<&'a ClassLine>, line: &'a ClassLine) -> Result<(), AllocError>
+    ensures { OnOk result (map (λ l. l.now) lines.new.items ≡ map (λ l. l.now) lines.old.items ++ line.now ∷ []) }
+{
+    lines.push(line)?;
+    Ok(())
+}
+
 /// The child space of a space on one side. 0 for another space.
 fn child_of(g: &Guide, is_right: bool, space: u32) -> u32
     ensures { result ≡ child_of g.now is_right space }
@@ -110,7 +118,7 @@ pub(crate) fn read_classes<'a>(
     for space in 0..g.spaces() {
         let child = child_of(g, is_right, space);
         let (line, rest) = class_line(is_right, spaces, space, child, left)?;
-        read.push(line)?;
+        push_line(&mut read, line)?;
         left = rest;
     }
     Ok((read, left))

@@ -7,7 +7,7 @@ use ws2s_core::{Formula, Guide, Track};
 
 /// What is said of a section.
 #[derive(Clone, Copy, Debug, PartialEq, Eq)]
-enum Said {
+enum Answer {
     Accepted,
     Refused(usize, FaultKind),
     NoMemory,
@@ -30,13 +30,13 @@ fn lines_of(alloc: Global, text: &[u8]) -> Result<Vec<Line>, AllocError> {
 }
 
 /// What is said of a section of a formula under the plain guide.
-fn said(alloc: Global, f: &Formula, text: &[u8]) -> Result<Said, AllocError> {
+fn said(alloc: Global, f: &Formula, text: &[u8]) -> Result<Answer, AllocError> {
     let g = Guide::plain(alloc)?;
     let lines = lines_of(alloc, text)?;
     match check_section(alloc, f, &g, lines.as_slice()) {
-        Ok(()) => Ok(Said::Accepted),
-        Err(SectionStop::Refused(CertFault { line, kind })) => Ok(Said::Refused(line, kind)),
-        Err(SectionStop::NoMemory) => Ok(Said::NoMemory),
+        Ok(()) => Ok(Answer::Accepted),
+        Err(SectionStop::Refused(CertFault { line, kind })) => Ok(Answer::Refused(line, kind)),
+        Err(SectionStop::NoMemory) => Ok(Answer::NoMemory),
     }
 }
 
@@ -69,7 +69,7 @@ end
 #[test]
 fn a_contradiction_is_accepted(rt: HostRuntime) -> Result<(), Fail> {
     let f = contradiction(rt.alloc())?;
-    assert_eq!(rt; said(rt.alloc(), &f, SECTION)?, Said::Accepted);
+    assert_eq!(rt; said(rt.alloc(), &f, SECTION)?, Answer::Accepted);
     Ok(())
 }
 
@@ -103,11 +103,11 @@ fn accepting_states_and_missing_pairs_are_refused(rt: HostRuntime) -> Result<(),
     let f = contradiction(rt.alloc())?;
     assert_eq!(rt;
         said(rt.alloc(), &f, ACCEPTS)?,
-        Said::Refused(11, FaultKind::Table)
+        Answer::Refused(11, FaultKind::Table)
     );
     assert_eq!(rt;
         said(rt.alloc(), &f, SHORT)?,
-        Said::Refused(10, FaultKind::Table)
+        Answer::Refused(10, FaultKind::Table)
     );
     Ok(())
 }
@@ -140,11 +140,11 @@ end
 #[test]
 fn states_that_do_not_settle_are_refused(rt: HostRuntime) -> Result<(), Fail> {
     let f = never(rt.alloc())?;
-    assert_eq!(rt; said(rt.alloc(), &f, LEAST)?, Said::Accepted);
+    assert_eq!(rt; said(rt.alloc(), &f, LEAST)?, Answer::Accepted);
     let always = Formula::not(rt.alloc(), never(rt.alloc())?)?;
     assert_eq!(rt;
         said(rt.alloc(), &always, TOO_LARGE)?,
-        Said::Refused(9, FaultKind::Table)
+        Answer::Refused(9, FaultKind::Table)
     );
     Ok(())
 }
