@@ -36,7 +36,8 @@ fn row(alloc: Global, nodes: &mut NodeTable, atom: Node, p: u32) -> Result<Targe
 {
     let mut row = Items::new(alloc);
     for q in 0..states(atom) {
-        row.push(cell(nodes, atom, p, q)?)?;
+        let target = cell(nodes, atom, p, q)?;
+        row.push(target)?;
     }
     Ok(row)
 }
@@ -54,7 +55,8 @@ pub(crate) fn rows(
 {
     let mut rows = Items::new(alloc);
     for p in 0..states(atom) {
-        rows.push(row(alloc, nodes, atom, p)?)?;
+        let targets = row(alloc, nodes, atom, p)?;
+        rows.push(targets)?;
     }
     Ok(rows)
 }
@@ -65,7 +67,8 @@ pub(crate) fn copy_rows(alloc: Global, rows: &[TargetList]) -> Result<Items<Targ
 {
     let mut copy = Items::new(alloc);
     for row in rows {
-        copy.push(Items::from_slice(alloc, row.as_slice())?)?;
+        let targets = Items::from_slice(alloc, row.as_slice())?;
+        copy.push(targets)?;
     }
     Ok(copy)
 }

@@ -33,12 +33,15 @@ fn numbers(alloc: Global, count: u32) -> Result<NumberList, AllocError>
 fn space_table(alloc: Global, count: u32, rows: &[TargetList]) -> Result<SpaceTable, AllocError>
     ensures { IfOk result (IsSpaceOf count rows.now) }
 {
+    let lefts = numbers(alloc, count)?;
+    let rights = numbers(alloc, count)?;
+    let roots = copy_rows(alloc, rows)?;
     Ok(SpaceTable {
         states: count,
         initial: 0,
-        lefts: numbers(alloc, count)?,
-        rights: numbers(alloc, count)?,
-        roots: copy_rows(alloc, rows)?,
+        lefts,
+        rights,
+        roots,
     })
 }
 
@@ -53,7 +56,8 @@ fn space_tables(
 {
     let mut tables = Items::new(alloc);
     for _space in 0..spaces {
-        tables.push(space_table(alloc, count, rows)?)?;
+        let table = space_table(alloc, count, rows)?;
+        tables.push(table)?;
     }
     Ok(tables)
 }
@@ -92,10 +96,12 @@ pub fn atom_table(
         AgreeIn g.now (table_automaton (record { atoms = nodes.new; told = told }) table) (atom_automaton atom)) }
     ensures there { IfOk result (λ table. (told : List NodeLine) → AreThere (record { atoms = nodes.new; told = told }) table) }
 {
-    let rows = rows(alloc, nodes, atom)?;
+    let made = rows(alloc, nodes, atom)?;
+    let spaces = space_tables(alloc, g.spaces(), states(atom), made.as_slice())?;
+    let accepting = accepting(alloc, atom)?;
     Ok(Table {
         in_atoms: true,
-        spaces: space_tables(alloc, g.spaces(), states(atom), rows.as_slice())?,
-        accepting: accepting(alloc, atom)?,
+        spaces,
+        accepting,
     })
 }
