@@ -41,7 +41,7 @@ use Rattle.cert_check.specs.Told.{lines_of_step, nodes_of_steps, Tells, IsInPlac
 use Rattle.cert_check.specs.Standing.{IsGrown, IsAtomBase, HasAutomaton, IsConjunctionBase, IsQuantifiedBase, AddsBase, no_stage, stage_at}
 use Rattle.cert_check.specs.Standing.{SaysReached, IsToldThere, StandsAt, Stands}
 use Rattle.cert_check.proofs.GrowingLemmas.{grown-same, automaton-grown, there-grown, agree-same, agree-signed, agree-complement}
-use Rattle.cert_check.proofs.StagesLemmas.{stage-is}
+use Rattle.cert_check.proofs.StagesLemmas.{below-one, below-first, below-second, stage-is}
 use Rattle.cert_check.proofs.StandingLemmas.{IsLonger, new-at, stands-next}
 use Rattle.cert_check.proofs.SettlingLemmas.{settling-agreeing}
 
@@ -151,7 +151,7 @@ pub negation-stands : (g : Spaces) (nodes : List Node) (d : Diagrams) (old new :
     ((j : ℕ) → j < k → (node : Node) × (slice_get nodes j ≡ Some node)) →
     Stands g nodes d old k body left → Stands g nodes d new (k + 1) body left
 negation-stands g nodes d old new k f body left below at bases parts there stands =
-    let low : f.0 < k = below 0 0 (omega arith) in
+    let low : f.0 < k = below-one k f.0 below in
     let node = there f.0 low in
     let inner = stands.each f.0 node.0 low node.1 in
     let part : Part = record { base = (inner.part).base; is_negated = not (inner.part).is_negated } in
@@ -262,8 +262,8 @@ module _ (g : Spaces) (nodes : List Node) (d e : Diagrams) (old new : Board) (k 
   pub conjunction-stands : (f h : FormulaId) → HasPartsBelow k (Node.And f h) → slice_get nodes k ≡ Some (Node.And f h) →
       lines ≡ line.And k ∷ left → AddsBase (IsConjunctionBase g d.told e old f.0 h.0 left rest) old new → Stands g nodes e new (k + 1) body rest
   conjunction-stands f h below at first adds =
-      let low_f : f.0 < k = below 0 0 (omega arith) in
-      let low_h : h.0 < k = below 1 0 (omega arith) in
+      let low_f : f.0 < k = below-first k f.0 h.0 below in
+      let low_h : h.0 < k = below-second k f.0 h.0 below in
       let is = adds.is in
       let reads = is.reads in
       let automaton = reads.automaton in
@@ -296,7 +296,7 @@ module _ (g : Spaces) (nodes : List Node) (d e : Diagrams) (old new : Board) (k 
   pub quantified-stands : (t : Track) (f : FormulaId) → HasPartsBelow k (Node.Ex2 t f) → slice_get nodes k ≡ Some (Node.Ex2 t f) →
       lines ≡ line.Ex k ∷ left → AddsBase (IsQuantifiedBase g d.told e old t.0 f.0 left rest) old new → Stands g nodes e new (k + 1) body rest
   quantified-stands t f below at first adds =
-      let low_f : f.0 < k = below 0 0 (omega arith) in
+      let low_f : f.0 < k = below-one k f.0 below in
       let is = adds.is in
       let reads = is.reads in
       let automaton = reads.automaton in

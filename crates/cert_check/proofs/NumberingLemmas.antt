@@ -16,7 +16,7 @@ use Rattle.ws2s_core.specs.Parts.{IsPart, itself, deeper, IsPartAt, ArePartsOf}
 use Rattle.ws2s_core.proofs.NodesLemmas.{formulas_of-at, formula_at-is, at-formula_at, node-inside}
 use Rattle.std.proofs.lemmas.List.Elements.{All-contains}
 use Rattle.cert_steps.proofs.ListsLemmas.{one-more, each-push}
-use Rattle.cert_check.proofs.StagesLemmas.{taken-next, long-taken}
+use Rattle.cert_check.proofs.StagesLemmas.{below-one, below-first, below-second, taken-next, long-taken}
 use Rattle.cert_check.specs.Numbering.{IsFormAt, AreForms, AreNodesOf}
 
 -- ---- places
@@ -71,9 +71,9 @@ node-same xs ys (Node.Succ0 x y) k below same = refl
 node-same xs ys (Node.Succ1 x y) k below same = refl
 node-same xs ys (Node.Root x) k below same = refl
 node-same xs ys (Node.And f h) k below same =
-    ap₂ (λ (a b : Formula). roll-Formula (Formula-F.And a b)) (same f.0 (below 0 0 (omega arith))) (same h.0 (below 1 0 (omega arith)))
-node-same xs ys (Node.Not f) k below same = ap (λ (a : Formula). roll-Formula (Formula-F.Not a)) (same f.0 (below 0 0 (omega arith)))
-node-same xs ys (Node.Ex2 t f) k below same = ap (λ (a : Formula). roll-Formula (Formula-F.Ex2 t a)) (same f.0 (below 0 0 (omega arith)))
+    ap₂ (λ (a b : Formula). roll-Formula (Formula-F.And a b)) (same f.0 (below-first k f.0 h.0 below)) (same h.0 (below-second k f.0 h.0 below))
+node-same xs ys (Node.Not f) k below same = ap (λ (a : Formula). roll-Formula (Formula-F.Not a)) (same f.0 (below-one k f.0 below))
+node-same xs ys (Node.Ex2 t f) k below same = ap (λ (a : Formula). roll-Formula (Formula-F.Ex2 t a)) (same f.0 (below-one k f.0 below))
 
 parts-map : (h : ℕ → Formula) (form : Formula-F ℕ) → parts_of (map-Formula ℕ Formula h form) ≡ map h (parts_of form)
 parts-map h (Formula-F.Sub x y) = refl

@@ -1,7 +1,8 @@
 -- Stages and the lines of steps, with one more at their ends.
-use Rattle.std.proofs.Common.{◌≡◌, ℕ, zero, suc, ◌+◌, ◌<◌, ◌≤◌, List, [], ◌∷◌, ◌++◌, length, take, slice_get, Some, refl, ap, sym, ◌∙◌, subst, arith}
+use Rattle.std.proofs.Common.{◌≡◌, ℕ, zero, suc, ◌+◌, ◌<◌, ◌≤◌, List, [], ◌∷◌, ◌++◌, length, take, slice_get, Some, All, refl, ap, sym, ◌∙◌, subst, arith}
 use Rattle.std.proofs.Common.{append_assoc, append-nil}
 use Rattle.std.specs.Prelude.{slice_index_or}
+use Rattle.std.proofs.lemmas.List.Elements.{All-head, All-tail}
 use Rattle.gta_theory.specs.Guides.{Spaces}
 use Rattle.gta_theory.specs.Constructions.{complement, Settled}
 use Rattle.ws2s_core.specs.declared.node.Node.{Node}
@@ -14,6 +15,17 @@ use Rattle.cert_settled.specs.Settled.{AreSettling}
 use Rattle.cert_steps.specs.Steps.{StepLines}
 use Rattle.cert_check.specs.Told.{lines_of_step, lines_of_steps, IsInPlace}
 use Rattle.cert_check.specs.Standing.{no_stage, stage_at}
+
+-- ---- the numbers of parts
+
+pub below-one : (k p : ℕ) → All (λ part. part < k) (p ∷ []) → p < k
+below-one k p h = All-head (λ part. part < k) p [] h
+
+pub below-first : (k p q : ℕ) → All (λ part. part < k) (p ∷ q ∷ []) → p < k
+below-first k p q h = All-head (λ part. part < k) p (q ∷ []) h
+
+pub below-second : (k p q : ℕ) → All (λ part. part < k) (p ∷ q ∷ []) → q < k
+below-second k p q h = All-head (λ part. part < k) q [] (All-tail (λ part. part < k) p (q ∷ []) h)
 
 -- ---- stages by number
 
@@ -35,11 +47,11 @@ module _ (g : Spaces) (stages others : ℕ → Stage) (j : ℕ) (same : (k : ℕ
   stage-of-same (Node.Succ1 x y) stage below is = is
   stage-of-same (Node.Root x) stage below is = is
   stage-of-same (Node.And f h) stage below is =
-      subst (λ (s : Stage). IsPairTable g (others f.0).automaton s.automaton stage.pairs stage.automaton) (same h.0 (below 1 0 (omega arith)))
-      (subst (λ (s : Stage). IsPairTable g s.automaton (stages h.0).automaton stage.pairs stage.automaton) (same f.0 (below 0 0 (omega arith))) is)
-  stage-of-same (Node.Not f) stage below is = is ∙ ap (λ (s : Stage). complement s.automaton) (same f.0 (below 0 0 (omega arith)))
+      subst (λ (s : Stage). IsPairTable g (others f.0).automaton s.automaton stage.pairs stage.automaton) (same h.0 (below-second j f.0 h.0 below))
+      (subst (λ (s : Stage). IsPairTable g s.automaton (stages h.0).automaton stage.pairs stage.automaton) (same f.0 (below-first j f.0 h.0 below)) is)
+  stage-of-same (Node.Not f) stage below is = is ∙ ap (λ (s : Stage). complement s.automaton) (same f.0 (below-one j f.0 below))
   stage-of-same (Node.Ex2 t f) stage below is =
-      subst (λ (s : Stage). IsSetTable g s.automaton t.0 (Settled g s.automaton t.0) stage.sets stage.automaton) (same f.0 (below 0 0 (omega arith))) is
+      subst (λ (s : Stage). IsSetTable g s.automaton t.0 (Settled g s.automaton t.0) stage.sets stage.automaton) (same f.0 (below-one j f.0 below)) is
 
   pub in-place-same : (drawn : List NodeLine) (node : Node) (step : StepLines) → HasPartsBelow j node → IsInPlace g stages drawn node step →
       IsInPlace g others drawn node step
@@ -51,7 +63,7 @@ module _ (g : Spaces) (stages others : ℕ → Stage) (j : ℕ) (same : (k : ℕ
   in-place-same drawn (Node.And f h) step below is = is
   in-place-same drawn (Node.Not f) step below is = is
   in-place-same drawn (Node.Ex2 t f) step below is =
-      (is.0, subst (λ (s : Stage). AreSettling g s.automaton t.0 step.starts step.settles) (same f.0 (below 0 0 (omega arith))) is.1, is.2, is.3)
+      (is.0, subst (λ (s : Stage). AreSettling g s.automaton t.0 step.starts step.settles) (same f.0 (below-one j f.0 below)) is.1, is.2, is.3)
 
 -- ---- lists cut off
 
@@ -59,8 +71,8 @@ pub taken-next : {X : Type 0} (xs : List X) (k : ℕ) (x : X) → slice_get xs k
 taken-next [] k x at = absurd cc
 taken-next (y ∷ xs) zero x at =
     let same : y ≡ x = cc in
-    ap (λ (z : _). z ∷ []) same
-taken-next (y ∷ xs) (suc k) x at = ap (λ (l : List _). y ∷ l) (taken-next xs k x at)
+    ap (λ (z : X). z ∷ []) same
+taken-next (y ∷ xs) (suc k) x at = ap (λ (l : List X). y ∷ l) (taken-next xs k x at)
 
 pub long-taken : {X : Type 0} (xs : List X) (k : ℕ) (x : X) → slice_get xs k ≡ Some x → length (take k xs) ≡ k
 long-taken [] k x at = absurd cc
@@ -70,13 +82,13 @@ long-taken (y ∷ xs) (suc k) x at = ap suc (long-taken xs k x at)
 pub taken-front : {X : Type 0} (xs : List X) (x : X) (k : ℕ) → k ≤ length xs → take k (xs ++ x ∷ []) ≡ take k xs
 taken-front xs x zero inside = refl
 taken-front [] x (suc k) inside = absurd (omega (arith, inside))
-taken-front (y ∷ xs) x (suc k) inside = ap (λ (l : List _). y ∷ l) (taken-front xs x k (omega (arith, inside)))
+taken-front (y ∷ xs) x (suc k) inside = ap (λ (l : List X). y ∷ l) (taken-front xs x k (omega (arith, inside)))
 
 pub taken-all : {X : Type 0} (xs : List X) (x : X) (k : ℕ) → length xs ≡ k → take k (xs ++ x ∷ []) ≡ xs
 taken-all [] x zero many = refl
 taken-all [] x (suc k) many = absurd (omega (arith, many))
 taken-all (y ∷ xs) x zero many = absurd (omega (arith, many))
-taken-all (y ∷ xs) x (suc k) many = ap (λ (l : List _). y ∷ l) (taken-all xs x k (omega (arith, many)))
+taken-all (y ∷ xs) x (suc k) many = ap (λ (l : List X). y ∷ l) (taken-all xs x k (omega (arith, many)))
 
 -- ---- lines of steps
 

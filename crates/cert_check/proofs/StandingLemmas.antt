@@ -22,7 +22,7 @@ use Rattle.cert_check.specs.declared.board.Board.{Board}
 use Rattle.cert_check.specs.Told.{lines_of_step, lines_of_steps, nodes_of_steps, Tells, IsInPlace}
 use Rattle.cert_check.specs.Standing.{IsGrown, stage_at, SaysReached, IsToldThere, StandsAt, Stands}
 use Rattle.cert_check.proofs.GrowingLemmas.{automaton-grown, there-grown, alone-grown, told-grown}
-use Rattle.cert_check.proofs.StagesLemmas.{stage-front, stage-of-same, in-place-same, taken-front, taken-all, read-step}
+use Rattle.cert_check.proofs.StagesLemmas.{below-one, stage-front, stage-of-same, in-place-same, taken-front, taken-all, read-step}
 
 -- a board with one more part, and maybe one more base
 pub record IsLonger (old new : Board) (part : Part) : Type 0 where
@@ -30,11 +30,11 @@ pub record IsLonger (old new : Board) (part : Part) : Type 0 where
   pub bases : Extends old.bases new.bases
 
 front-get : {X : Type 0} (xs ys more : List X) (k : ℕ) (x : X) → ys ≡ xs ++ more → k < length xs → slice_get xs k ≡ Some x → slice_get ys k ≡ Some x
-front-get xs ys more k x is inside at = ap (λ (l : List _). slice_get l k) is ∙ slice_get-front xs more k inside ∙ at
+front-get xs ys more k x is inside at = ap (λ (l : List X). slice_get l k) is ∙ slice_get-front xs more k inside ∙ at
 
 last-get : {X : Type 0} (xs ys : List X) (x : X) (k : ℕ) → ys ≡ xs ++ x ∷ [] → length xs ≡ k → slice_get ys k ≡ Some x
 last-get xs ys x k is many =
-    ap (λ (l : List _). slice_get l k) is ∙ ap (λ (n : ℕ). slice_get (xs ++ x ∷ []) n) (sym many) ∙ slice_get-last xs x
+    ap (λ (l : List X). slice_get l k) is ∙ ap (λ (n : ℕ). slice_get (xs ++ x ∷ []) n) (sym many) ∙ slice_get-last xs x
 
 within : {X : Type 0} (xs : List X) (k : ℕ) (x : X) → slice_get xs k ≡ Some x → k < length xs
 within [] k x at = absurd cc
@@ -73,7 +73,7 @@ reached-kept old new more (Node.Succ1 x y) stage part base j is below inside say
 reached-kept old new more (Node.Root x) stage part base j is below inside says = says
 reached-kept old new more (Node.And f h) stage part base j is below inside says = says
 reached-kept old new more (Node.Not f) stage part base j is below inside says =
-    let low = below 0 0 (omega arith) in
+    let low = below-one j f.0 below in
     front-get old new more f.0 _ is (omega (arith, low, inside)) says
 reached-kept old new more (Node.Ex2 t f) stage part base j is below inside says = says
 

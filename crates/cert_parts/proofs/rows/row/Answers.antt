@@ -16,6 +16,6 @@ loop-q-preserved c = (
   c.in_ok-target.ensures.drawn,
   grown-more c.args.nodes.now c.loop-q.nodes c.cell-target.new.nodes c.loop-q.invariant.1 c.in_ok-target.ensures.grown,
   subst (AreCells c.cell-target.new.nodes c.args.atom c.args.p (c.loop-q.q + 1)) (sym c.in_ok-push.ensures.ok)
-  (cells-push c.loop-q.nodes c.cell-target.new.nodes c.args.atom c.args.p c.loop-q.q c.loop-q.row c.in_ok-target.target c.loop-q.invariant.2
-  c.in_ok-target.ensures.grown c.in_ok-target.ensures.leads),
+      (cells-push c.loop-q.nodes c.cell-target.new.nodes c.args.atom c.args.p c.loop-q.q c.loop-q.row c.in_ok-target.target c.loop-q.invariant.2
+      c.in_ok-target.ensures.grown c.in_ok-target.ensures.leads),
 )
