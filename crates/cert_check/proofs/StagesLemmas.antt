@@ -71,8 +71,8 @@ pub taken-next : {X : Type 0} (xs : List X) (k : ℕ) (x : X) → slice_get xs k
 taken-next [] k x at = absurd cc
 taken-next (y ∷ xs) zero x at =
     let same : y ≡ x = cc in
-    ap (λ (z : X). z ∷ []) same
-taken-next (y ∷ xs) (suc k) x at = ap (λ (l : List X). y ∷ l) (taken-next xs k x at)
+    ap (λ z. z ∷ []) same
+taken-next (y ∷ xs) (suc k) x at = ap (λ l. y ∷ l) (taken-next xs k x at)
 
 pub long-taken : {X : Type 0} (xs : List X) (k : ℕ) (x : X) → slice_get xs k ≡ Some x → length (take k xs) ≡ k
 long-taken [] k x at = absurd cc
@@ -82,13 +82,13 @@ long-taken (y ∷ xs) (suc k) x at = ap suc (long-taken xs k x at)
 pub taken-front : {X : Type 0} (xs : List X) (x : X) (k : ℕ) → k ≤ length xs → take k (xs ++ x ∷ []) ≡ take k xs
 taken-front xs x zero inside = refl
 taken-front [] x (suc k) inside = absurd (omega (arith, inside))
-taken-front (y ∷ xs) x (suc k) inside = ap (λ (l : List X). y ∷ l) (taken-front xs x k (omega (arith, inside)))
+taken-front (y ∷ xs) x (suc k) inside = ap (λ l. y ∷ l) (taken-front xs x k (omega (arith, inside)))
 
 pub taken-all : {X : Type 0} (xs : List X) (x : X) (k : ℕ) → length xs ≡ k → take k (xs ++ x ∷ []) ≡ xs
 taken-all [] x zero many = refl
 taken-all [] x (suc k) many = absurd (omega (arith, many))
 taken-all (y ∷ xs) x zero many = absurd (omega (arith, many))
-taken-all (y ∷ xs) x (suc k) many = ap (λ (l : List X). y ∷ l) (taken-all xs x k (omega (arith, many)))
+taken-all (y ∷ xs) x (suc k) many = ap (λ l. y ∷ l) (taken-all xs x k (omega (arith, many)))
 
 -- ---- lines of steps
 

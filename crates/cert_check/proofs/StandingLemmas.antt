@@ -30,11 +30,11 @@ pub record IsLonger (old new : Board) (part : Part) : Type 0 where
   pub bases : Extends old.bases new.bases
 
 front-get : {X : Type 0} (xs ys more : List X) (k : ℕ) (x : X) → ys ≡ xs ++ more → k < length xs → slice_get xs k ≡ Some x → slice_get ys k ≡ Some x
-front-get xs ys more k x is inside at = ap (λ (l : List X). slice_get l k) is ∙ slice_get-front xs more k inside ∙ at
+front-get xs ys more k x is inside at = ap (λ l. slice_get l k) is ∙ slice_get-front xs more k inside ∙ at
 
 last-get : {X : Type 0} (xs ys : List X) (x : X) (k : ℕ) → ys ≡ xs ++ x ∷ [] → length xs ≡ k → slice_get ys k ≡ Some x
 last-get xs ys x k is many =
-    ap (λ (l : List X). slice_get l k) is ∙ ap (λ (n : ℕ). slice_get (xs ++ x ∷ []) n) (sym many) ∙ slice_get-last xs x
+    ap (λ l. slice_get l k) is ∙ ap (λ (n : ℕ). slice_get (xs ++ x ∷ []) n) (sym many) ∙ slice_get-last xs x
 
 within : {X : Type 0} (xs : List X) (k : ℕ) (x : X) → slice_get xs k ≡ Some x → k < length xs
 within [] k x at = absurd cc

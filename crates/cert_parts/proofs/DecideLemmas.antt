@@ -24,7 +24,7 @@ grown-one xs ys x is = record { more = x ∷ []; is = is }
 pub grown-more : {N : Type 0} (xs ys zs : List N) → Extends xs ys → Extends ys zs → Extends xs zs
 grown-more xs ys zs first second = record {
   more = first.more ++ second.more;
-  is = second.is ∙ ap (λ (l : List N). l ++ second.more) first.is ∙ append_assoc xs first.more second.more;
+  is = second.is ∙ ap (λ l. l ++ second.more) first.is ∙ append_assoc xs first.more second.more;
 }
 
 -- ---- a target that is there leads on where it led
