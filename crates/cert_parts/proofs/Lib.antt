@@ -1,4 +1,3 @@
-pub mod ChoiceLemmas
 pub mod DecideLemmas
 pub mod RowsLemmas
 pub mod TableLemmas
