@@ -15,6 +15,6 @@ loop-space-preserved c =
     subst (λ (lines : List ClassLine). (c.args.lines.now ≡ map (side_line b) lines ++ c.in_ok-line.rest.now)
     × AreClassLines spaces (child_of g b) (c.loop-space.space + 1) lines) (sym c.in_ok-push_line.ensures) (
       read-more (side_line b) c.args.lines.now read c.in_ok-line.line.now c.loop-space.left.now c.in_ok-line.rest.now c.loop-space.invariant.0
-      c.in_ok-line.ensures.0,
+          c.in_ok-line.ensures.0,
       classes-push spaces (child_of g b) c.loop-space.space read c.in_ok-line.line.now c.loop-space.invariant.1 c.in_ok-line.ensures.1,
     )

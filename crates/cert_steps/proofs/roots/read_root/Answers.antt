@@ -11,5 +11,5 @@ loop-node-preserved c = (
   c.in_ok-draw.ensures.known,
   c.in_ok-draw.ensures.atoms ∙ c.loop-node.invariant.2,
   drawn-more c.args.drawing.now.nodes.told c.loop-node.drawing.nodes.told c.draw.new.drawing.nodes.told c.args.lines.now c.loop-node.left.now
-  c.in-Some.rest.now c.in-Some.node c.loop-node.invariant.3 c.in-Some.ensures c.in_ok-draw.ensures.told,
+      c.in-Some.rest.now c.in-Some.node c.loop-node.invariant.3 c.in-Some.ensures c.in_ok-draw.ensures.told,
 )

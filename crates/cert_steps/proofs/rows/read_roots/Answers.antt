@@ -14,7 +14,7 @@ loop-space-init c =
       c.requires.known,
       refl,
       subst (λ (tables : List SpaceTable). ReadsSpaces told told c.args.spaces.now ls rs 0 c.args.lines.now tables c.args.lines.now)
-      (sym c.new-tables.ensures) (spaces-none c.args.spaces.now ls rs told c.args.lines.now),
+          (sym c.new-tables.ensures) (spaces-none c.args.spaces.now ls rs told c.args.lines.now),
     )
 
 pub loop-space-preserved : goal.loop-space-preserved
@@ -28,7 +28,7 @@ loop-space-preserved c =
       c.in_ok-table.ensures.known,
       c.in_ok-table.ensures.atoms ∙ c.loop-space.invariant.2,
       subst (λ (tables : List SpaceTable). ReadsSpaces old new c.args.spaces.now ls rs (c.loop-space.space + 1) c.args.lines.now tables
-      c.in_ok-table.rest.now) (sym c.in_ok-push.ensures.ok)
-      (spaces-push c.args.spaces.now ls rs old mid new c.loop-space.space c.args.lines.now c.loop-space.left.now c.in_ok-table.rest.now
-      c.loop-space.tables c.in_ok-table.table c.loop-space.invariant.3 c.in_ok-table.ensures.found),
+          c.in_ok-table.rest.now) (sym c.in_ok-push.ensures.ok)
+          (spaces-push c.args.spaces.now ls rs old mid new c.loop-space.space c.args.lines.now c.loop-space.left.now c.in_ok-table.rest.now
+          c.loop-space.tables c.in_ok-table.table c.loop-space.invariant.3 c.in_ok-table.ensures.found),
     )

@@ -12,7 +12,7 @@ loop-class-init c =
       c.requires.known,
       refl,
       subst (λ (rows : List (List Target)). ReadsRows told told p.states p.space 0 p.right c.args.lines.now rows c.args.lines.now)
-      (sym c.new-rows.ensures) (rows-none p.states p.space p.right told c.args.lines.now),
+          (sym c.new-rows.ensures) (rows-none p.states p.space p.right told c.args.lines.now),
     )
 
 pub loop-class-preserved : goal.loop-class-preserved
@@ -25,7 +25,7 @@ loop-class-preserved c =
       c.in_ok-targets.ensures.known,
       c.in_ok-targets.ensures.atoms ∙ c.loop-class.invariant.2,
       subst (λ (rows : List (List Target)). ReadsRows old new p.states p.space (c.loop-class.class + 1) p.right c.args.lines.now rows
-      c.in_ok-targets.rest.now) (sym c.in_ok-push.ensures.ok)
-      (rows-push p.states p.space p.right old mid new c.loop-class.class c.args.lines.now c.loop-class.left.now c.in_ok-targets.rest.now
-      c.loop-class.rows c.in_ok-targets.targets c.loop-class.invariant.3 c.in_ok-targets.ensures.found),
+          c.in_ok-targets.rest.now) (sym c.in_ok-push.ensures.ok)
+          (rows-push p.states p.space p.right old mid new c.loop-class.class c.args.lines.now c.loop-class.left.now c.in_ok-targets.rest.now
+          c.loop-class.rows c.in_ok-targets.targets c.loop-class.invariant.3 c.in_ok-targets.ensures.found),
     )

@@ -17,6 +17,6 @@ loop-space-preserved c =
     subst (λ (read : List SpaceLine). (c.args.lines.now ≡ map line.Space read ++ c.in_ok-line.rest.now) × AreSpaceLines (c.loop-space.space + 1) read)
     (sym c.in_ok-push.ensures.ok) (
       read-more line.Space c.args.lines.now c.loop-space.read c.in_ok-line.line c.loop-space.left.now c.in_ok-line.rest.now
-      c.loop-space.invariant.0 c.in_ok-line.ensures.0,
+          c.loop-space.invariant.0 c.in_ok-line.ensures.0,
       spaces-push c.loop-space.space c.loop-space.read c.in_ok-line.line c.loop-space.invariant.1 c.in_ok-line.ensures.1,
     )
