@@ -145,14 +145,25 @@ impl Steps {
     }
 }
 
-/// The roots for all pairs of child states, row after row.
+/// Puts the roots of a state on the left with each on the right behind others.
+fn push_row(
+    roots: &mut Items<Next>,
+    atom: Atom,
+    left: u32,
+    choices: &mut Choices,
+) -> Result<(), AllocError> {
+    for right in 0..atom.states() {
+        let steps = Steps::of(atom, (left, right));
+        roots.push(steps.by(atom.tracks(), choices)?)?;
+    }
+    Ok(())
+}
+
+/// The roots of all pairs of child states, row after row.
 fn roots_of(alloc: Global, atom: Atom, choices: &mut Choices) -> Result<Items<Next>, AllocError> {
     let mut roots = Items::new(alloc);
     for left in 0..atom.states() {
-        for right in 0..atom.states() {
-            let steps = Steps::of(atom, (left, right));
-            roots.push(steps.by(atom.tracks(), choices)?)?;
-        }
+        push_row(&mut roots, atom, left, choices)?;
     }
     Ok(roots)
 }

@@ -10,6 +10,7 @@ mod atoms;
 mod certificate;
 mod choices;
 mod groups;
+mod keeping;
 mod lines;
 mod made;
 mod making;
@@ -20,6 +21,7 @@ mod sets;
 mod settled;
 mod steps;
 mod table;
+mod tried;
 mod uses;
 
 pub use certificate::certificate;

@@ -73,17 +73,28 @@ fn push_choices(lines: &mut LineList, choices: &Choices, from: u32) -> Result<u3
     Ok(number)
 }
 
+/// The roots of a class on the left with each on the right.
+fn push_row(
+    lines: &mut LineList,
+    part: &SpaceTable,
+    space: u32,
+    left: u32,
+) -> Result<(), AllocError> {
+    for right in 0..part.width {
+        lines.push(Line::Root(RootLine {
+            space,
+            left,
+            right,
+            target: target(part.root(left, right)),
+        }))?;
+    }
+    Ok(())
+}
+
 /// The roots of a space, for each class on the left those with each class on the right.
 fn push_roots(lines: &mut LineList, part: &SpaceTable, space: u32) -> Result<(), AllocError> {
     for left in 0..part.height {
-        for right in 0..part.width {
-            lines.push(Line::Root(RootLine {
-                space,
-                left,
-                right,
-                target: target(part.root(left, right)),
-            }))?;
-        }
+        push_row(lines, part, space, left)?;
     }
     Ok(())
 }

@@ -1,79 +1,57 @@
-//! The minimal automata of the parts, each made of those that are kept for its own parts.
+//! The minimal automata of formulas, each made of those that are kept for its parts.
 
-ghost use Rattle.std.specs.Prelude.{◌≡◌, List, [], ◌∷◌, IfOk, OnErr};
+ghost use Rattle.std.specs.Prelude.{◌≡◌, [], ◌∷◌, IfOk, OnErr};
 ghost use Rattle.bdd_nodes.specs.Shelf.{limit_of};
 ghost use Rattle.gta_theory.specs.Guides.{Spaces};
-ghost use Rattle.gta_core.specs.Auto.{AutoView};
 ghost use Rattle.cert_make.specs.Holding.{HoldsKept};
+ghost use Rattle.cert_make.specs.Tried.{copied, made};
 
 use crate::atoms::{Atom, atom_of};
+use crate::tried::{Copies, Tried};
 use bdd_nodes::Shelf;
 use bdd_walk::{NoMemory, Stop};
-use gta_core::{Auto, release};
-use gta_form::form_of;
+use gta_core::release;
 use gta_keep::{Kept, build_atom, conjoin, quantify};
 use gta_product::complement;
-use gta_reach::Form;
-use std::alloc::{AllocError, Global};
+use std::alloc::Global;
 use ws2s_core::{FormulaId, Guide, Node, Track};
 
-/// A copy of the automaton that is kept for the formula with the number.
-///
-/// # Errors
-///
-/// Want of memory, also where none is kept: it was let go of for want of room.
-fn copy_of(
-    alloc: Global,
-    id: FormulaId,
-    kept: &mut Kept,
-    shelf: &mut Shelf,
-) -> Result<Auto, NoMemory>
-    requires { (g : Spaces) × (waiting : List AutoView) × HoldsKept g shelf.old waiting kept.old }
-    ensures ok { IfOk result (λ auto. (g : Spaces) (waiting : List AutoView) → HoldsKept g shelf.old waiting kept.old →
-        HoldsKept g shelf.new (auto ∷ waiting) kept.new) }
-    ensures err { OnErr result ((g : Spaces) (waiting : List AutoView) → HoldsKept g shelf.old waiting kept.old →
-        HoldsKept g shelf.new waiting kept.new) }
-    ensures same_limit { limit_of shelf.new ≡ limit_of shelf.old }
-{
-    match kept.copy_of(alloc, id, shelf)? {
-        Some(auto) => Ok(auto),
-        None => Err(AllocError),
-    }
-}
-
 /// That of an atom.
-fn make_atom(
+fn try_atom(
     alloc: Global,
     g: &Guide,
     atom: Option<Atom>,
     kept: &mut Kept,
     shelf: &mut Shelf,
-) -> Result<Auto, Stop>
+) -> Result<Tried, Stop>
     requires { HoldsKept g.now shelf.old [] kept.old }
-    ensures ok { IfOk result (λ auto. HoldsKept g.now shelf.new (auto ∷ []) kept.new) }
+    ensures ok { IfOk result (λ tried. HoldsKept g.now shelf.new (made tried) kept.new) }
     ensures err { OnErr result (HoldsKept g.now shelf.new [] kept.new) }
     ensures same_limit { limit_of shelf.new ≡ limit_of shelf.old }
 {
     let Some(atom) = atom else {
         return Err(Stop::NoMemory);
     };
-    build_atom(alloc, g, &atom.formula(), kept, shelf)
+    let auto = build_atom(alloc, g, &atom.formula(), kept, shelf)?;
+    Ok(Tried::Made(auto))
 }
 
 /// That of a negation.
-fn make_negation(
+fn try_negation(
     alloc: Global,
     part: FormulaId,
     kept: &mut Kept,
     shelf: &mut Shelf,
-) -> Result<Auto, Stop>
+) -> Result<Tried, NoMemory>
     requires { (g : Spaces) × HoldsKept g shelf.old [] kept.old }
-    ensures ok { IfOk result (λ auto. (g : Spaces) → HoldsKept g shelf.old [] kept.old → HoldsKept g shelf.new (auto ∷ []) kept.new) }
+    ensures ok { IfOk result (λ tried. (g : Spaces) → HoldsKept g shelf.old [] kept.old → HoldsKept g shelf.new (made tried) kept.new) }
     ensures err { OnErr result ((g : Spaces) → HoldsKept g shelf.old [] kept.old → HoldsKept g shelf.new [] kept.new) }
     ensures same_limit { limit_of shelf.new ≡ limit_of shelf.old }
 {
-    let auto = copy_of(alloc, part, kept, shelf)?;
-    Ok(complement(auto))
+    match kept.copy_of(alloc, part, shelf)? {
+        Some(auto) => Ok(Tried::Made(complement(auto))),
+        None => Ok(Tried::Missing(part)),
+    }
 }
 
 /// Copies of the automata of two parts.
@@ -83,16 +61,21 @@ fn copies_of(
     second: FormulaId,
     kept: &mut Kept,
     shelf: &mut Shelf,
-) -> Result<(Auto, Auto), NoMemory>
+) -> Result<Copies, NoMemory>
     requires { (g : Spaces) × HoldsKept g shelf.old [] kept.old }
-    ensures ok { IfOk result (λ both. (g : Spaces) → HoldsKept g shelf.old [] kept.old →
-        HoldsKept g shelf.new (both.0 ∷ both.1 ∷ []) kept.new) }
+    ensures ok { IfOk result (λ copies. (g : Spaces) → HoldsKept g shelf.old [] kept.old → HoldsKept g shelf.new (copied copies) kept.new) }
     ensures err { OnErr result ((g : Spaces) → HoldsKept g shelf.old [] kept.old → HoldsKept g shelf.new [] kept.new) }
     ensures same_limit { limit_of shelf.new ≡ limit_of shelf.old }
 {
-    let b = copy_of(alloc, second, kept, shelf)?;
-    match copy_of(alloc, first, kept, shelf) {
-        Ok(a) => Ok((a, b)),
+    let Some(b) = kept.copy_of(alloc, second, shelf)? else {
+        return Ok(Copies::Missing(second));
+    };
+    match kept.copy_of(alloc, first, shelf) {
+        Ok(Some(a)) => Ok(Copies::Both(a, b)),
+        Ok(None) => {
+            release(b, shelf);
+            Ok(Copies::Missing(first))
+        }
         Err(why) => {
             release(b, shelf);
             Err(why)
@@ -101,102 +84,72 @@ fn copies_of(
 }
 
 /// That of a conjunction.
-fn make_conjunction(
+fn try_conjunction(
     alloc: Global,
     g: &Guide,
     first: FormulaId,
     second: FormulaId,
     kept: &mut Kept,
     shelf: &mut Shelf,
-) -> Result<Auto, Stop>
+) -> Result<Tried, Stop>
     requires { HoldsKept g.now shelf.old [] kept.old }
-    ensures ok { IfOk result (λ auto. HoldsKept g.now shelf.new (auto ∷ []) kept.new) }
+    ensures ok { IfOk result (λ tried. HoldsKept g.now shelf.new (made tried) kept.new) }
     ensures err { OnErr result (HoldsKept g.now shelf.new [] kept.new) }
     ensures same_limit { limit_of shelf.new ≡ limit_of shelf.old }
 {
-    let (a, b) = copies_of(alloc, first, second, kept, shelf)?;
-    conjoin(alloc, g, a, b, kept, shelf)
+    match copies_of(alloc, first, second, kept, shelf)? {
+        Copies::Both(a, b) => {
+            let auto = conjoin(alloc, g, a, b, kept, shelf)?;
+            Ok(Tried::Made(auto))
+        }
+        Copies::Missing(part) => Ok(Tried::Missing(part)),
+    }
 }
 
 /// That of a quantified formula.
-fn make_quantified(
+fn try_quantified(
     alloc: Global,
     g: &Guide,
     track: Track,
     part: FormulaId,
     kept: &mut Kept,
     shelf: &mut Shelf,
-) -> Result<Auto, Stop>
+) -> Result<Tried, Stop>
     requires { HoldsKept g.now shelf.old [] kept.old }
-    ensures ok { IfOk result (λ auto. HoldsKept g.now shelf.new (auto ∷ []) kept.new) }
+    ensures ok { IfOk result (λ tried. HoldsKept g.now shelf.new (made tried) kept.new) }
     ensures err { OnErr result (HoldsKept g.now shelf.new [] kept.new) }
     ensures same_limit { limit_of shelf.new ≡ limit_of shelf.old }
 {
-    let a = copy_of(alloc, part, kept, shelf)?;
-    quantify(alloc, g, a, track, kept, shelf)
+    match kept.copy_of(alloc, part, shelf)? {
+        Some(a) => {
+            let auto = quantify(alloc, g, a, track, kept, shelf)?;
+            Ok(Tried::Made(auto))
+        }
+        None => Ok(Tried::Missing(part)),
+    }
 }
 
-/// The minimal automaton of the formula of a node.
+/// The minimal automaton of the formula of a node, or the part for which none is kept.
 ///
 /// # Errors
 ///
-/// `Limit` where the shelf has no room; want of memory, also where none is kept for a part.
-pub(crate) fn make(
+/// `Limit` where the shelf has no room; want of memory.
+pub(crate) fn try_make(
     alloc: Global,
     g: &Guide,
     node: Node,
     kept: &mut Kept,
     shelf: &mut Shelf,
-) -> Result<Auto, Stop>
+) -> Result<Tried, Stop>
     requires { HoldsKept g.now shelf.old [] kept.old }
-    ensures ok { IfOk result (λ auto. HoldsKept g.now shelf.new (auto ∷ []) kept.new) }
+    ensures ok { IfOk result (λ tried. HoldsKept g.now shelf.new (made tried) kept.new) }
     ensures err { OnErr result (HoldsKept g.now shelf.new [] kept.new) }
     ensures same_limit { limit_of shelf.new ≡ limit_of shelf.old }
 {
     match node {
-        Node::And(first, second) => make_conjunction(alloc, g, first, second, kept, shelf),
-        Node::Ex2(track, part) => make_quantified(alloc, g, track, part, kept, shelf),
-        Node::Not(part) => make_negation(alloc, part, kept, shelf),
-        Node::Sub(_, _) | Node::Single(_) | Node::Succ0(_, _) | Node::Succ1(_, _) | Node::Root(_) => {
-            make_atom(alloc, g, atom_of(node), kept, shelf)
-        }
-    }
-}
-
-/// The form of an automaton, which is kept for the formula with the number, and is let go of.
-///
-/// # Errors
-///
-/// Want of memory.
-pub(crate) fn keep(
-    alloc: Global,
-    g: &Guide,
-    id: FormulaId,
-    auto: Auto,
-    kept: &mut Kept,
-    shelf: &mut Shelf,
-) -> Result<Form, NoMemory>
-    requires { HoldsKept g.now shelf.old (auto ∷ []) kept.old }
-    ensures holds { HoldsKept g.now shelf.new [] kept.new }
-    ensures same_limit { limit_of shelf.new ≡ limit_of shelf.old }
-{
-    let form = form_of(alloc, g, &auto, shelf);
-    let keeping = kept.keep(alloc, id, &auto, shelf);
-    release(auto, shelf);
-    keeping?;
-    form
-}
-
-/// What is kept for the formula is let go of.
-pub(crate) fn let_go(part: Option<FormulaId>, kept: &mut Kept, shelf: &mut Shelf)
-    requires { (g : Spaces) × HoldsKept g shelf.old [] kept.old }
-    ensures holds { (g : Spaces) → HoldsKept g shelf.old [] kept.old → HoldsKept g shelf.new [] kept.new }
-    ensures same_limit { limit_of shelf.new ≡ limit_of shelf.old }
-{
-    let Some(id) = part else {
-        return;
-    };
-    if let Some(auto) = kept.take(id) {
-        release(auto, shelf);
+        Node::And(first, second) => try_conjunction(alloc, g, first, second, kept, shelf),
+        Node::Ex2(track, part) => try_quantified(alloc, g, track, part, kept, shelf),
+        Node::Not(part) => Ok(try_negation(alloc, part, kept, shelf)?),
+        _ => try_atom(alloc, g, atom_of(node), kept, shelf),
     }
 }

@@ -78,6 +78,20 @@ fn root_of(space: &FormSpace, nodes: &[Next], left: u32, right: u32) -> Next {
     }
 }
 
+/// Puts the roots of a class on the left with those on the right behind others.
+fn push_row(
+    roots: &mut Items<Next>,
+    space: &FormSpace,
+    nodes: &[Next],
+    left: u32,
+    rights: &[u32],
+) -> Result<(), AllocError> {
+    for right in rights {
+        roots.push(root_of(space, nodes, left, *right))?;
+    }
+    Ok(())
+}
+
 /// The roots of all pairs of classes, row after row.
 fn roots_of(
     alloc: Global,
@@ -88,9 +102,7 @@ fn roots_of(
 ) -> Result<Items<Next>, AllocError> {
     let mut roots = Items::new(alloc);
     for left in lefts {
-        for right in rights {
-            roots.push(root_of(space, nodes, *left, *right))?;
-        }
+        push_row(&mut roots, space, nodes, *left, rights)?;
     }
     Ok(roots)
 }

@@ -76,15 +76,34 @@ impl Section {
         g: &Guide,
         id: FormulaId,
         node: Node,
+        form: &Option<Form>,
+    ) -> Result<(), AllocError> {
+        match form {
+            Some(form) => self.add_step(alloc, id, node, form),
+            None => self.add_fixed(alloc, g, node),
+        }
+    }
+
+    /// The next part has a step, with an automaton of this form.
+    fn add_step(
+        &mut self,
+        alloc: Global,
+        id: FormulaId,
+        node: Node,
         form: &Form,
     ) -> Result<(), AllocError> {
         match node {
             Node::And(first, second) => self.add_conjunction(alloc, id, first, second, form),
             Node::Ex2(track, part) => self.add_quantified(alloc, id, track, part, form),
+            _ => Ok(()),
+        }
+    }
+
+    /// The next part has no step.
+    fn add_fixed(&mut self, alloc: Global, g: &Guide, node: Node) -> Result<(), AllocError> {
+        match node {
             Node::Not(part) => self.add_negation(part),
-            Node::Sub(_, _) | Node::Single(_) | Node::Succ0(_, _) | Node::Succ1(_, _) | Node::Root(_) => {
-                self.add_atom(alloc, g, atom_of(node))
-            }
+            _ => self.add_atom(alloc, g, atom_of(node)),
         }
     }
 

@@ -1,28 +1,48 @@
 //! A section of a formula, part by part, with automata in a shelf.
 
-ghost use Rattle.std.specs.Prelude.{◌≡◌, [], ◌∷◌};
+ghost use Rattle.std.specs.Prelude.{◌≡◌, []};
 ghost use Rattle.bdd_nodes.specs.Shelf.{limit_of};
 ghost use Rattle.gta_theory.specs.Guides.{Spaces};
 ghost use Rattle.gta_keep.specs.Holding.{HasNoTables};
 ghost use Rattle.cert_make.specs.Holding.{HoldsKept};
 
 use crate::lines::LineList;
-use crate::making::{keep, let_go, make};
+use crate::keeping::{form_kept, let_go, make};
 use crate::section::Section;
 use crate::uses::{Uses, parts_of};
 use bdd_nodes::Shelf;
-use bdd_walk::Stop;
+use bdd_walk::{NoMemory, Stop};
 use cert_text::Way;
 use gta_keep::Kept;
+use gta_reach::Form;
 use std::alloc::Global;
 use ws2s_core::{Formula, FormulaId, Guide, Interner, Node, intern};
+
+/// The form of the automaton that is kept for the formula with the number, if its lines are those of a step.
+fn form_for(
+    alloc: Global,
+    g: &Guide,
+    id: FormulaId,
+    node: Node,
+    kept: &mut Kept,
+    shelf: &mut Shelf,
+) -> Result<Option<Form>, NoMemory>
+    requires { HoldsKept g.now shelf.old [] kept.old }
+    ensures holds { HoldsKept g.now shelf.new [] kept.new }
+    ensures same_limit { limit_of shelf.new ≡ limit_of shelf.old }
+{
+    match node {
+        Node::And(_, _) | Node::Ex2(_, _) => form_kept(alloc, g, id, kept, shelf),
+        _ => Ok(None),
+    }
+}
 
 /// The automaton of the formula with the number is made and kept, and the formula added to the section.
 fn add_part(
     alloc: Global,
     g: &Guide,
+    interner: &Interner,
     id: FormulaId,
-    node: Node,
     section: &mut Section,
     kept: &mut Kept,
     shelf: &mut Shelf,
@@ -31,21 +51,30 @@ fn add_part(
     ensures holds { HoldsKept g.now shelf.new [] kept.new }
     ensures same_limit { limit_of shelf.new ≡ limit_of shelf.old }
 {
-    let auto = make(alloc, g, node, kept, shelf)?;
-    let form = keep(alloc, g, id, auto, kept, shelf)?;
+    let Some(node) = interner.form(id) else {
+        return Err(Stop::NoMemory);
+    };
+    make(alloc, g, interner, id, kept, shelf)?;
+    let form = form_for(alloc, g, id, node, kept, shelf)?;
     section.add(alloc, g, id, node, &form)?;
     Ok(())
 }
 
 /// The automata of parts that come no more, and the nodes that nothing needs, are let go of.
-fn clear(number: u32, node: Node, uses: &Uses, kept: &mut Kept, shelf: &mut Shelf)
+fn clear(
+    interner: &Interner,
+    id: FormulaId,
+    uses: &Uses,
+    kept: &mut Kept,
+    shelf: &mut Shelf,
+)
     requires { (g : Spaces) × HoldsKept g shelf.old [] kept.old }
     ensures holds { (g : Spaces) → HoldsKept g shelf.old [] kept.old → HoldsKept g shelf.new [] kept.new }
     ensures same_limit { limit_of shelf.new ≡ limit_of shelf.old }
 {
-    let parts = parts_of(node);
-    let_go(uses.ends(parts.first, number), kept, shelf);
-    let_go(uses.ends(parts.second, number), kept, shelf);
+    let parts = parts_of(interner, id);
+    let_go(uses.ends(parts.first, id), kept, shelf);
+    let_go(uses.ends(parts.second, id), kept, shelf);
     kept.sweep(shelf);
 }
 
@@ -66,10 +95,8 @@ fn add_parts(
     let uses = Uses::new(alloc, interner, count)?;
     for number in 0..count {
         let id = FormulaId(number);
-        if let Some(node) = interner.form(id) {
-            add_part(alloc, g, id, node, section, kept, shelf)?;
-            clear(number, node, &uses, kept, shelf);
-        }
+        add_part(alloc, g, interner, id, section, kept, shelf)?;
+        clear(interner, id, &uses, kept, shelf);
     }
     Ok(())
 }

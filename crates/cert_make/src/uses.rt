@@ -18,23 +18,21 @@ pub(crate) struct PartsOf {
     pub(crate) second: Option<FormulaId>,
 }
 
-/// The parts of a node.
-pub(crate) fn parts_of(node: Node) -> PartsOf {
-    match node {
-        Node::And(f, h) => PartsOf {
+/// The parts of the formula with the number.
+pub(crate) fn parts_of(interner: &Interner, id: FormulaId) -> PartsOf {
+    match interner.form(id) {
+        Some(Node::And(f, h)) => PartsOf {
             first: Some(f),
             second: Some(h),
         },
-        Node::Not(f) | Node::Ex2(_, f) => PartsOf {
+        Some(Node::Not(f)) | Some(Node::Ex2(_, f)) => PartsOf {
             first: Some(f),
             second: None,
         },
-        Node::Sub(_, _) | Node::Single(_) | Node::Succ0(_, _) | Node::Succ1(_, _) | Node::Root(_) => {
-            PartsOf {
-                first: None,
-                second: None,
-            }
-        }
+        _ => PartsOf {
+            first: None,
+            second: None,
+        },
     }
 }
 
@@ -48,11 +46,9 @@ impl Uses {
         let last = vec![in alloc; 0; count as usize]?;
         let mut uses = Uses { last };
         for number in 0..count {
-            if let Some(node) = interner.form(FormulaId(number)) {
-                let parts = parts_of(node);
-                uses.set(parts.first, number);
-                uses.set(parts.second, number);
-            }
+            let parts = parts_of(interner, FormulaId(number));
+            uses.set(parts.first, number);
+            uses.set(parts.second, number);
         }
         Ok(uses)
     }
@@ -68,9 +64,9 @@ impl Uses {
     }
 
     /// The part, if the formula with the number is the last one that it is a part of.
-    pub(crate) fn ends(&self, part: Option<FormulaId>, number: u32) -> Option<FormulaId> {
+    pub(crate) fn ends(&self, part: Option<FormulaId>, whole: FormulaId) -> Option<FormulaId> {
         let id = part?;
         let last = self.last.get(id.0 as usize)?;
-        if *last == number { Some(id) } else { None }
+        if *last == whole.0 { Some(id) } else { None }
     }
 }
