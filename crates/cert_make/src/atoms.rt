@@ -78,7 +78,11 @@ impl Atom {
 
 /// 1 where a position of the first set isn't in the second one.
 fn sub_step(children: (u32, u32), is_outside: bool) -> u32 {
-    if children == (0, 0) && !is_outside { 0 } else { 1 }
+    if children == (0, 0) && !is_outside {
+        0
+    } else {
+        1
+    }
 }
 
 /// How many positions there are, 2 of them or more counted as 2.
@@ -89,7 +93,11 @@ fn single_step(children: (u32, u32), is_in: bool) -> u32 {
 
 /// 0 where there is no position, 1 where there is this one alone, else 2.
 fn root_step(children: (u32, u32), is_in: bool) -> u32 {
-    if children == (0, 0) { u32::from(is_in) } else { 2 }
+    if children == (0, 0) {
+        u32::from(is_in)
+    } else {
+        2
+    }
 }
 
 /// 0 where there is no position, 1 where there is that of the second set, here, 2 where that of the first set stands above

@@ -43,12 +43,7 @@ impl Choices {
     /// # Errors
     ///
     /// Want of memory, also where no number is left.
-    pub(crate) fn choose(
-        &mut self,
-        track: u32,
-        low: Next,
-        high: Next,
-    ) -> Result<Next, AllocError> {
+    pub(crate) fn choose(&mut self, track: u32, low: Next, high: Next) -> Result<Next, AllocError> {
         if low == high {
             return Ok(low);
         }
@@ -76,13 +71,7 @@ impl Choices {
     /// What is left of a function where a track, before which it asks none, has this bit.
     pub(crate) fn side(&self, next: Next, track: u32, bit: bool) -> Next {
         match self.choice(next) {
-            Some(choice) if choice.track == track => {
-                if bit {
-                    choice.high
-                } else {
-                    choice.low
-                }
-            }
+            Some(choice) if choice.track == track => { if bit { choice.high } else { choice.low } }
             _ => next,
         }
     }

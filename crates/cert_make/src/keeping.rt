@@ -110,7 +110,7 @@ pub(crate) fn make(
     todo.push(id)?;
     // Each formula with a number up to this one is looked at with a part missing, with the other one missing, and made.
     let most = (u64::from(id.0) + 1) * 4;
-    for _ in 0..most {
+    for _turn in 0..most {
         let Some(next) = todo.pop() else {
             return Ok(());
         };

@@ -7,7 +7,7 @@
 #![tactic(auto)]
 
 mod atoms;
-mod certificate;
+mod certifying;
 mod choices;
 mod groups;
 mod keeping;
@@ -24,6 +24,6 @@ mod table;
 mod tried;
 mod uses;
 
-pub use certificate::certificate;
+pub use certifying::certificate;
 pub use lines::LineList;
 pub use made::CertMade;

@@ -10,7 +10,7 @@ use std::alloc::{AllocError, Global};
 pub type LineList = Items<Line>;
 
 /// How a function is written.
-fn target(next: Next) -> Target {
+fn target_of(next: Next) -> Target {
     match next {
         Next::State(state) => Target::State(state),
         Next::Choice(number) => Target::Node(number.saturating_add(1)),
@@ -58,8 +58,8 @@ fn node_line(number: u32, choice: Choice) -> Line {
     Line::Node(NodeLine {
         node: number.saturating_add(1),
         track: choice.track,
-        low: target(choice.low),
-        high: target(choice.high),
+        low: target_of(choice.low),
+        high: target_of(choice.high),
     })
 }
 
@@ -85,7 +85,7 @@ fn push_row(
             space,
             left,
             right,
-            target: target(part.root(left, right)),
+            target: target_of(part.root(left, right)),
         }))?;
     }
     Ok(())

@@ -1,6 +1,6 @@
 //! The minimal automata of formulas, each made of those that are kept for its parts.
 
-ghost use Rattle.std.specs.Prelude.{◌≡◌, [], ◌∷◌, IfOk, OnErr};
+ghost use Rattle.std.specs.Prelude.{◌≡◌, [], IfOk, OnErr};
 ghost use Rattle.bdd_nodes.specs.Shelf.{limit_of};
 ghost use Rattle.gta_theory.specs.Guides.{Spaces};
 ghost use Rattle.cert_make.specs.Holding.{HoldsKept};

@@ -108,12 +108,7 @@ impl Section {
     }
 
     /// The next part is an atom.
-    fn add_atom(
-        &mut self,
-        alloc: Global,
-        g: &Guide,
-        atom: Option<Atom>,
-    ) -> Result<(), AllocError> {
+    fn add_atom(&mut self, alloc: Global, g: &Guide, atom: Option<Atom>) -> Result<(), AllocError> {
         let Some(atom) = atom else {
             return Err(AllocError);
         };
@@ -197,13 +192,7 @@ impl Section {
             dropping.track,
             &mut self.lines,
         )?;
-        push_sets(
-            alloc,
-            dropping,
-            &self.choices,
-            &settled,
-            &mut self.lines,
-        )
+        push_sets(alloc, dropping, &self.choices, &settled, &mut self.lines)
     }
 
     /// The next part, with this number, is quantified, and has an automaton of this form.

@@ -210,24 +210,12 @@ fn kinds_of(
     if left == set.space {
         let classes = parts.part.lefts.as_slice();
         let whole = parts.whole.left_class(state);
-        kinds.left = Some(kind_of(
-            alloc,
-            set.states.as_slice(),
-            classes,
-            whole,
-            kind_sets,
-        )?);
+        kinds.left = Some(kind_of(alloc, set.states.as_slice(), classes, whole, kind_sets)?);
     }
     if right == set.space {
         let classes = parts.part.rights.as_slice();
         let whole = parts.whole.right_class(state);
-        kinds.right = Some(kind_of(
-            alloc,
-            set.states.as_slice(),
-            classes,
-            whole,
-            kind_sets,
-        )?);
+        kinds.right = Some(kind_of(alloc, set.states.as_slice(), classes, whole, kind_sets)?);
     }
     Ok(kinds)
 }

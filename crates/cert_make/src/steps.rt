@@ -6,8 +6,8 @@ ghost use Rattle.gta_theory.specs.Guides.{Spaces};
 ghost use Rattle.gta_keep.specs.Holding.{HasNoTables};
 ghost use Rattle.cert_make.specs.Holding.{HoldsKept};
 
-use crate::lines::LineList;
 use crate::keeping::{form_kept, let_go, make};
+use crate::lines::LineList;
 use crate::section::Section;
 use crate::uses::{Uses, parts_of};
 use bdd_nodes::Shelf;
@@ -61,13 +61,7 @@ fn add_part(
 }
 
 /// The automata of parts that come no more, and the nodes that nothing needs, are let go of.
-fn clear(
-    interner: &Interner,
-    id: FormulaId,
-    uses: &Uses,
-    kept: &mut Kept,
-    shelf: &mut Shelf,
-)
+fn clear(interner: &Interner, id: FormulaId, uses: &Uses, kept: &mut Kept, shelf: &mut Shelf)
     requires { (g : Spaces) × HoldsKept g shelf.old [] kept.old }
     ensures holds { (g : Spaces) → HoldsKept g shelf.old [] kept.old → HoldsKept g shelf.new [] kept.new }
     ensures same_limit { limit_of shelf.new ≡ limit_of shelf.old }

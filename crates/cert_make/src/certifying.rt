@@ -23,12 +23,7 @@ use ws2s_decide::{Verdict, automaton, decide};
 /// # Errors
 ///
 /// Want of memory.
-fn is_section(
-    _alloc: Global,
-    _f: &Formula,
-    _g: &Guide,
-    _lines: &[Line],
-) -> Result<bool, NoMemory> {
+fn is_section(_alloc: Global, _f: &Formula, _g: &Guide, _lines: &[Line]) -> Result<bool, NoMemory> {
     // The checker's call goes here.
     Ok(true)
 }
