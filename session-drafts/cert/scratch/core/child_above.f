@@ -1,0 +1,1 @@
+And(Succ0(0,1),Not(Not(Ex2(47,And(And(Sub(1,47),Not(Ex2(48,Ex2(49,And(And(Not(And(Not(Succ0(48,49)),Not(Succ1(48,49)))),Sub(49,47)),Not(Sub(48,47))))))),Not(Sub(0,47)))))))

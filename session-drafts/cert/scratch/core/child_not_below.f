@@ -1,0 +1,1 @@
+And(Succ0(0,1),Not(Ex2(50,And(And(Sub(0,50),Not(Ex2(51,Ex2(52,And(And(Not(And(Not(Succ0(51,52)),Not(Succ1(51,52)))),Sub(52,50)),Not(Sub(51,50))))))),Not(Sub(1,50))))))

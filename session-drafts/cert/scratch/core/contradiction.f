@@ -1,0 +1,1 @@
+And(Single(0),Not(Single(0)))

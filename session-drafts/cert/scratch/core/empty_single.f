@@ -1,0 +1,1 @@
+And(Single(0),Ex2(1,And(And(Single(1),Sub(1,0)),Not(Sub(0,1)))))

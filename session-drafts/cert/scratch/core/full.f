@@ -1,0 +1,1 @@
+Not(Ex2(0,Not(Ex2(1,And(And(Single(1),Sub(1,0)),Not(Sub(1,0)))))))

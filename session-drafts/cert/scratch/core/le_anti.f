@@ -1,0 +1,1 @@
+And(And(And(And(Single(0),Single(1)),Not(Ex2(23,And(And(Sub(1,23),Not(Ex2(24,Ex2(25,And(And(Not(And(Not(Succ0(24,25)),Not(Succ1(24,25)))),Sub(25,23)),Not(Sub(24,23))))))),Not(Sub(0,23)))))),Not(Ex2(26,And(And(Sub(0,26),Not(Ex2(27,Ex2(28,And(And(Not(And(Not(Succ0(27,28)),Not(Succ1(27,28)))),Sub(28,26)),Not(Sub(27,26))))))),Not(Sub(1,26)))))),Not(Sub(0,1)))

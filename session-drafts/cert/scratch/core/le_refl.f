@@ -1,0 +1,1 @@
+And(Single(0),Not(Not(Ex2(11,And(And(Sub(0,11),Not(Ex2(12,Ex2(13,And(And(Not(And(Not(Succ0(12,13)),Not(Succ1(12,13)))),Sub(13,11)),Not(Sub(12,11))))))),Not(Sub(0,11)))))))

@@ -1,0 +1,1 @@
+And(Ex2(1,And(Single(1),Sub(1,0))),Not(Ex2(2,And(And(Single(2),Sub(2,0)),Not(Ex2(3,And(And(And(Single(3),Sub(3,0)),Not(Ex2(53,And(And(Sub(2,53),Not(Ex2(54,Ex2(55,And(And(Not(And(Not(Succ0(54,55)),Not(Succ1(54,55)))),Sub(55,53)),Not(Sub(54,53))))))),Not(Sub(3,53)))))),Not(Sub(3,2)))))))))

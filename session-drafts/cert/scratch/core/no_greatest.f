@@ -1,0 +1,1 @@
+And(Single(0),Not(Ex2(1,Not(Not(And(Single(1),Not(Not(Ex2(44,And(And(Sub(0,44),Not(Ex2(45,Ex2(46,And(And(Not(And(Not(Succ0(45,46)),Not(Succ1(45,46)))),Sub(46,44)),Not(Sub(45,44))))))),Not(Sub(1,44))))))))))))

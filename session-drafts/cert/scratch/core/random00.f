@@ -1,0 +1,1 @@
+And(And(And(Sub(1,1),Single(2)),And(Succ0(2,0),Single(2))),And(And(Succ1(0,1),Root(1)),And(Succ0(1,2),Succ0(0,1))))

@@ -1,0 +1,1 @@
+And(Ex2(2,And(And(Root(2),Succ1(2,2)),Not(Succ1(2,2)))),Single(2))

@@ -1,0 +1,1 @@
+And(Ex2(1,And(Ex2(1,Sub(2,2)),Single(1))),And(Not(Root(1)),Ex2(1,And(Succ0(2,2),Sub(2,2)))))

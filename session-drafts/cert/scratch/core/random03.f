@@ -1,0 +1,1 @@
+And(And(Ex2(1,Ex2(2,Root(0))),Ex2(1,Succ1(2,2))),Root(1))

@@ -1,0 +1,1 @@
+Not(Not(And(And(Root(1),Succ0(0,0)),Not(Succ1(1,1)))))

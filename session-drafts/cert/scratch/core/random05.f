@@ -1,0 +1,1 @@
+Ex2(2,Ex2(1,And(Ex2(2,Succ0(2,2)),And(Root(0),Root(0)))))

@@ -1,0 +1,1 @@
+And(And(And(Succ1(0,1),Succ1(1,0)),And(Succ1(0,0),Root(0))),And(And(Root(0),Succ1(1,0)),And(Sub(0,0),Sub(0,1))))

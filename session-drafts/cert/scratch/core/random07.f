@@ -1,0 +1,1 @@
+And(And(Not(Succ0(2,1)),And(Single(1),Succ1(0,2))),And(Ex2(2,Root(1)),And(Sub(2,1),Succ0(2,1))))

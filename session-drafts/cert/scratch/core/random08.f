@@ -1,0 +1,1 @@
+And(Not(And(And(Succ0(0,1),Sub(1,1)),Ex2(2,Root(0)))),And(Ex2(2,And(Succ0(2,0),Succ1(2,0))),Ex2(2,Single(0))))

@@ -1,0 +1,1 @@
+And(And(And(Root(0),Succ0(2,1)),And(Sub(2,2),Single(0))),And(Ex2(0,Succ1(0,0)),Not(Single(1))))

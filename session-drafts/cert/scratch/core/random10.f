@@ -1,0 +1,1 @@
+And(And(Root(1),And(Succ1(2,1),And(Sub(1,0),Sub(1,2)))),Ex2(0,And(And(Root(1),Root(0)),And(Sub(2,1),Sub(2,1)))))

@@ -1,0 +1,1 @@
+And(And(Ex2(0,And(Succ0(0,2),Succ1(0,0))),Ex2(1,Ex2(0,Succ0(1,1)))),Not(Ex2(1,And(Root(2),Single(2)))))

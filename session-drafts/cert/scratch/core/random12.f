@@ -1,0 +1,1 @@
+And(And(Ex2(1,Not(Succ0(2,1))),Ex2(1,Ex2(1,Succ0(1,1)))),Ex2(2,And(And(Succ0(1,0),Sub(1,0)),Ex2(2,Root(0)))))

@@ -1,0 +1,1 @@
+And(Not(And(And(Succ0(1,2),Root(0)),Ex2(0,Root(2)))),Succ0(0,0))

@@ -1,0 +1,1 @@
+And(Not(And(Root(1),Sub(2,2))),Not(Ex2(2,Single(2))))

@@ -1,0 +1,1 @@
+And(And(Ex2(2,Root(1)),And(Succ0(1,0),Sub(1,1))),And(And(Succ0(1,1),Sub(1,0)),Ex2(2,Succ1(0,2))))

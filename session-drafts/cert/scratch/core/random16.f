@@ -1,0 +1,1 @@
+And(And(And(Ex2(1,Succ0(2,2)),Not(Succ0(1,0))),Ex2(1,Ex2(2,Single(1)))),Ex2(0,Sub(1,2)))

@@ -1,0 +1,1 @@
+And(Not(Succ0(2,2)),And(And(Succ0(2,2),Single(2)),Not(Succ1(1,2))))

@@ -1,0 +1,1 @@
+And(And(And(Ex2(2,Root(0)),And(Single(0),Root(0))),Root(2)),And(Ex2(0,And(Sub(2,1),Single(1))),And(Single(2),And(Succ0(0,1),Single(1)))))

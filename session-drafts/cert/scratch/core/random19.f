@@ -1,0 +1,1 @@
+And(Ex2(0,And(Succ1(2,0),Sub(0,0))),Ex2(2,And(Succ0(2,2),Succ1(1,1))))

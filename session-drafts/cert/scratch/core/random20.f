@@ -1,0 +1,1 @@
+And(And(And(Succ1(2,2),Succ0(0,2)),And(Single(1),Sub(1,0))),Ex2(2,And(Single(0),Succ0(2,2))))

@@ -1,0 +1,1 @@
+And(Succ1(0,1),And(And(Succ0(1,1),Root(2)),And(Succ1(2,1),Root(2))))

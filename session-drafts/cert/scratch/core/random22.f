@@ -1,0 +1,1 @@
+Ex2(1,And(And(And(Succ1(0,0),Single(2)),And(Single(1),Succ1(1,1))),Not(And(Sub(2,0),Single(0)))))

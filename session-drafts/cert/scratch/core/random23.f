@@ -1,0 +1,1 @@
+And(And(And(Single(0),Single(0)),And(Succ1(1,2),Succ1(1,1))),Not(Ex2(0,Succ0(0,0))))

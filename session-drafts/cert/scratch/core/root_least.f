@@ -1,0 +1,1 @@
+And(And(Root(0),Single(1)),Not(Not(Ex2(41,And(And(Sub(1,41),Not(Ex2(42,Ex2(43,And(And(Not(And(Not(Succ0(42,43)),Not(Succ1(42,43)))),Sub(43,41)),Not(Sub(42,41))))))),Not(Sub(0,41)))))))

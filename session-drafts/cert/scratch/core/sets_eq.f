@@ -1,0 +1,1 @@
+And(And(Sub(0,1),Sub(1,0)),Ex2(2,And(And(Single(2),Sub(2,0)),Not(Sub(2,1)))))

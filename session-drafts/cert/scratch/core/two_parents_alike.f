@@ -1,0 +1,1 @@
+And(And(Succ0(0,2),Succ0(1,2)),Not(Sub(0,1)))
