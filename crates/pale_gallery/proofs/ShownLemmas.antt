@@ -3,7 +3,7 @@ use Rattle.std.proofs.Common.{ℕ, List, Option, Some, Result, Ok, Err, subst}
 use Rattle.std.specs.Prelude.{OnOk}
 use Rattle.pale_io.specs.Whole.{WritesAll}
 use Rattle.pale_io.proofs.WholeLemmas.{WritesAll-append}
-use Rattle.pale_modes.specs.declared.status.Status.{Status}
+use Rattle.pale_status.specs.declared.status.Status.{Status}
 use Rattle.pale_top.specs.Output.{Answers, CallOutput, IsAnswer}
 use Rattle.pale_gallery.specs.Shown.{Shows, status_line}
 

@@ -2,9 +2,9 @@
 use Rattle.std.specs.Prelude.{ℕ, List, ◌++◌, codes, Option}
 use Rattle.std.specs.Fmt.{decimal}
 use Rattle.pale_io.specs.Whole.{WritesAll}
-use Rattle.pale_modes.specs.declared.status.Status.{Status}
+use Rattle.pale_status.specs.declared.status.Status.{Status}
 use Rattle.pale_top.specs.Output.{CallOutput}
-use Rattle.pale_modes.specs.Statuses.{number_of}
+use Rattle.pale_status.specs.Statuses.{number_of}
 
 -- a head as it stands in the bundle
 abbrev pub head_line : List ℕ → List ℕ

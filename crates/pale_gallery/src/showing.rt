@@ -3,7 +3,7 @@ ghost use Rattle.std.specs.Prelude.{◌≡◌, IfSome, OnOk, map};
 ghost use Rattle.std.specs.String.{string_bytes};
 ghost use Rattle.pale_io.specs.Whole.{WritesAll};
 ghost use Rattle.pale_top.specs.Output.{IsAnswer};
-ghost use Rattle.pale_modes.specs.Statuses.{number_of};
+ghost use Rattle.pale_status.specs.Statuses.{number_of};
 ghost use Rattle.pale_gallery.specs.Shown.{Shows, head_line, status_line};
 
 use anyhow::{Context, Result};

@@ -15,8 +15,8 @@ use Rattle.pale_typed.specs.TypedPrograms.{TypedProgram}
 use Rattle.pale_typed.specs.Fitting.{ProgramFits}
 use Rattle.hoare_split.specs.Fitting.{FitsProgram}
 use Rattle.pale_io.specs.Whole.{WritesAll, WritesFront}
-use Rattle.pale_modes.specs.Written.{Wrote, WroteAtMost}
-use Rattle.pale_modes.proofs.WrittenLemmas.{nothing_written, both_written, front_of_first, first_written, front_of_second}
+use Rattle.pale_status.specs.Written.{Wrote, WroteAtMost}
+use Rattle.pale_status.proofs.WrittenLemmas.{nothing_written, both_written, front_of_first, first_written, front_of_second}
 use Rattle.program_judge.specs.declared.ways.FieldWay.{FieldWay}
 use Rattle.program_judge.specs.declared.ways.TripleWay.{TripleWay}
 use Rattle.program_judge.specs.declared.ways.Ending.{Ending}

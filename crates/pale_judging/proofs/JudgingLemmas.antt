@@ -13,7 +13,7 @@ use Rattle.pale_parts.specs.Parts.{IsCutAs, HasNoCut}
 use Rattle.pale_parts.specs.declared.request.RequestFault.{RequestFault}
 use Rattle.pale_parts.specs.declared.request.RequestKind.TheVariants as kind
 use Rattle.pale_starts.specs.Stops.{IsPartStop, uncut_stop, cut_stop}
-use Rattle.pale_modes.specs.Texts.{most_bytes}
+use Rattle.pale_status.specs.Texts.{most_bytes}
 use Rattle.std.specs.List.{list_all}
 use Rattle.store_core.specs.declared.ids.FieldId.{FieldId}
 use Rattle.store_core.specs.Tables.{TypeEntry}
@@ -27,16 +27,16 @@ use Rattle.pale_io.specs.Whole.{WritesAll, WritesFront}
 use Rattle.pale_parts.specs.declared.request.Request.{Request}
 use Rattle.pale_parts.specs.declared.request.Request.TheVariants as request
 use Rattle.pale_parts.specs.Requests.{triple, IsRequest, IsRequestFault, request_line}
-use Rattle.pale_modes.specs.declared.status.Status.{Status}
-use Rattle.pale_modes.specs.Written.{Wrote, WroteAtMost}
-use Rattle.pale_modes.proofs.WrittenLemmas.{nothing_written, both_written, front_of_first, first_written, front_of_second}
+use Rattle.pale_status.specs.declared.status.Status.{Status}
+use Rattle.pale_status.specs.Written.{Wrote, WroteAtMost}
+use Rattle.pale_status.proofs.WrittenLemmas.{nothing_written, both_written, front_of_first, first_written, front_of_second}
 use Rattle.program_judge.specs.declared.ways.FieldWay.{FieldWay}
 use Rattle.program_judge.specs.declared.ways.TripleWay.{TripleWay}
 use Rattle.program_judge.specs.Lines.{stopped_line}
 use Rattle.program_judge.specs.Reports.{pointer_fields, is_functional, stopped_ending, ReportsFields, ReportsTriple}
 use Rattle.program_judge.proofs.EndingLemmas.{fields-more, functional-silent}
 use Rattle.pale_judging.specs.Checking.{status_of, WroteFields, after_fields, amid_field}
-use Rattle.pale_modes.specs.declared.status.Status.TheVariants.{Good, Text}
+use Rattle.pale_status.specs.declared.status.Status.TheVariants.{Good, Text}
 use Rattle.pale_judging.specs.Judging.{Judges, JudgesPart, JudgesRequest, status_of_way}
 use Rattle.pale_judging.specs.Judging as judging
 

@@ -9,9 +9,9 @@ use Rattle.pale_typed.specs.TypedPrograms.{TypedProgram}
 use Rattle.pale_typed.specs.Fitting.{ProgramFits}
 use Rattle.hoare_split.specs.Fitting.{FitsProgram}
 use Rattle.pale_io.specs.Whole.{WritesAll, WritesFront}
-use Rattle.pale_modes.specs.declared.status.Status.{Status}
-use Rattle.pale_modes.specs.Written.{Wrote, WroteAtMost}
-use Rattle.pale_modes.proofs.WrittenLemmas.{nothing_written, both_written, front_of_first, first_written, front_of_second}
+use Rattle.pale_status.specs.declared.status.Status.{Status}
+use Rattle.pale_status.specs.Written.{Wrote, WroteAtMost}
+use Rattle.pale_status.proofs.WrittenLemmas.{nothing_written, both_written, front_of_first, first_written, front_of_second}
 use Rattle.program_judge.specs.declared.meet_way.MeetWay.{MeetWay}
 use Rattle.program_judge.specs.Meets.{ReportsMeet, ReportsMeets, no_triple, next_triple, totals_of}
 use Rattle.program_judge.proofs.MeetTellingLemmas.{meet-more, meets-rest}

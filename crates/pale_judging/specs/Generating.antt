@@ -7,10 +7,10 @@ use Rattle.store_exec.specs.declared.triple.Triple.{Triple}
 use Rattle.pale_typed.specs.TypedPrograms.{TypedProgram}
 use Rattle.pale_generator.specs.Generated.{program_text}
 use Rattle.whole_program.specs.ProgramTexts.{IsReadAs, IsRefusedAs}
-use Rattle.pale_modes.specs.declared.status.Status.{Status}
-use Rattle.pale_modes.specs.declared.status.Status.TheVariants.{Text}
-use Rattle.pale_modes.specs.Report.{refused_line, too_long_line}
-use Rattle.pale_modes.specs.Texts.{most_bytes}
+use Rattle.pale_status.specs.declared.status.Status.{Status}
+use Rattle.pale_status.specs.declared.status.Status.TheVariants.{Text}
+use Rattle.pale_status.specs.Report.{refused_line, too_long_line}
+use Rattle.pale_status.specs.Texts.{most_bytes}
 use Rattle.program_judge.specs.declared.ways.Ending.{Ending}
 use Rattle.program_judge.specs.declared.ways.FieldWay.{FieldWay}
 use Rattle.program_judge.specs.declared.ways.TripleWay.{TripleWay}

@@ -15,10 +15,10 @@ use Rattle.pale_parts.specs.declared.request.RequestFault.{RequestFault}
 use Rattle.pale_parts.specs.declared.request.RequestKind.TheVariants.{Missing}
 use Rattle.pale_parts.specs.Requests.{IsRequest, IsRequestFault, request_line}
 use Rattle.pale_starts.specs.Stops.{IsPartStop}
-use Rattle.pale_modes.specs.declared.status.Status.{Status}
-use Rattle.pale_modes.specs.declared.status.Status.TheVariants.{Good, Bad, Text, Limit}
-use Rattle.pale_modes.specs.Report.{refused_line, too_long_line}
-use Rattle.pale_modes.specs.Texts.{most_bytes}
+use Rattle.pale_status.specs.declared.status.Status.{Status}
+use Rattle.pale_status.specs.declared.status.Status.TheVariants.{Good, Bad, Text, Limit}
+use Rattle.pale_status.specs.Report.{refused_line, too_long_line}
+use Rattle.pale_status.specs.Texts.{most_bytes}
 use Rattle.program_judge.specs.declared.ways.FieldWay.{FieldWay}
 use Rattle.program_judge.specs.declared.ways.TripleWay.{TripleWay}
 use Rattle.program_judge.specs.declared.ways.TripleWay.TheVariants as tripled

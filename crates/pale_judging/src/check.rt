@@ -7,15 +7,15 @@ ghost use Rattle.witness_store.specs.Alike.{AreFunctional};
 ghost use Rattle.pale_typed.specs.Fitting.{ProgramFits};
 ghost use Rattle.hoare_split.specs.Fitting.{FitsProgram};
 ghost use Rattle.pale_words.specs.Words.{IsLimit};
-ghost use Rattle.pale_modes.specs.Written.{Wrote, WroteAtMost};
-ghost use Rattle.pale_modes.specs.Texts.{most_bytes};
+ghost use Rattle.pale_status.specs.Written.{Wrote, WroteAtMost};
+ghost use Rattle.pale_status.specs.Texts.{most_bytes};
 ghost use Rattle.program_judge.specs.Reports.{ReportsAll, ReportsProgram};
 ghost use Rattle.pale_judging.specs.Checking.{Checks, status_of};
 
 use crate::check_parts::{check_fields, check_triples};
 use bdd_nodes::Shelf;
 use pale_io::{Sink, WriteStop, write_all};
-use pale_modes::{Status, refuse};
+use pale_status::{Status, refuse};
 use program_judge::{Ending, are_functional, judged_ending, stopped_ending, totals_text};
 use std::alloc::Global;
 use whole_program::{WholeProgram, read_program};

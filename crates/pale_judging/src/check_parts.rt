@@ -6,7 +6,7 @@ ghost use Rattle.gta_keep.specs.Holding.{HasNoTables};
 ghost use Rattle.witness_store.specs.Alike.{AreFunctional};
 ghost use Rattle.pale_typed.specs.Fitting.{ProgramFits};
 ghost use Rattle.hoare_split.specs.Fitting.{FitsProgram};
-ghost use Rattle.pale_modes.specs.Written.{Wrote, WroteAtMost};
+ghost use Rattle.pale_status.specs.Written.{Wrote, WroteAtMost};
 ghost use Rattle.program_judge.specs.Reports as reports;
 ghost use Rattle.program_judge.specs.Reports.{ReportsField, ReportsFields, ReportsTriple, ReportsTriples, ReportsAll};
 ghost use Rattle.pale_judging.specs.Checking.{WroteFields};

@@ -7,7 +7,7 @@ ghost use Rattle.witness_store.specs.Alike.{AreFunctional};
 ghost use Rattle.pale_typed.specs.Fitting.{ProgramFits};
 ghost use Rattle.hoare_split.specs.Fitting.{FitsProgram};
 ghost use Rattle.pale_words.specs.Words.{IsLimit};
-ghost use Rattle.pale_modes.specs.Written.{Wrote, WroteAtMost};
+ghost use Rattle.pale_status.specs.Written.{Wrote, WroteAtMost};
 ghost use Rattle.program_judge.specs.Reports.{ReportsTriples, judged_ending};
 ghost use Rattle.pale_judging.specs.Generating.{Counts, Gens, Tells, gen_counts, gen_head, gen_line, gen_sizes};
 
@@ -17,17 +17,15 @@ use crate::nowhere::Nowhere;
 use bdd_nodes::Shelf;
 use pale_generator::gen_program;
 use pale_io::{Sink, WriteStop};
-use pale_modes::{Status, push_number, refuse, say};
+use pale_status::{MOST_BYTES, Status, refuse, say};
 use program_judge::{
     Ending, TripleWay, are_functional, invalid_count, judged_ending, limit_count, stopped_ending,
     valid_count,
 };
 use std::alloc::{AllocError, Global};
+use store_words::push_number;
 use whole_program::{WholeProgram, read_program};
 use ws2s_pass::PassList;
-
-/// The most bytes that a text may have.
-const MOST_BYTES: usize = 1_048_576;
 
 /// How the triples of a program were judged, none where some field isn't functional, and how its report ends.
 #[derive(Drop)]

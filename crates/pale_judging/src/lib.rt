@@ -2,7 +2,7 @@
 //!
 //! `specs/Checking.antt` says what `check` writes for a text and with which status, `specs/Judging.antt` what `judge` does,
 //! `specs/Meeting.antt` what `meet` does, and `specs/Generating.antt` what `gen` does for a seed. What all modes share is
-//! `pale_modes`'s.
+//! `pale_status`'s.
 #![tactic(auto)]
 
 mod check;

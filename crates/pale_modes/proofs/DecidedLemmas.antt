@@ -19,9 +19,9 @@ use Rattle.ws2s_answer.specs.declared.answer.Answer.{Answer}
 use Rattle.ws2s_answer.specs.declared.answer.Answer.TheVariants as answer
 use Rattle.ws2s_answer.specs.Answering.{IsAnswer}
 use Rattle.ws2s_answer.specs.Within.{IsPeakWithin}
-use Rattle.pale_modes.specs.declared.status.Status.{Status}
-use Rattle.pale_modes.specs.declared.status.Status.TheVariants.{Good}
-use Rattle.pale_modes.specs.Texts.{most_bytes}
+use Rattle.pale_status.specs.declared.status.Status.{Status}
+use Rattle.pale_status.specs.declared.status.Status.TheVariants.{Good}
+use Rattle.pale_status.specs.Texts.{most_bytes}
 use Rattle.pale_modes.specs.Deciding.{Decides, Says, too_long, refused, read, big, unsatisfiable, valid, satisfiable, too_large, above}
 use Rattle.pale_modes.specs.Completing.{IsWithinPeak}
 

@@ -12,7 +12,7 @@ use Rattle.ws2s_answer.specs.declared.answer.Answer.{Answer}
 use Rattle.ws2s_answer.specs.declared.answer.Answer.TheVariants as answer
 use Rattle.ws2s_answer.specs.Answering.{IsAnswer, IsExample}
 use Rattle.ws2s_example.specs.Examples.{HaveOnePosition, IsExampleText}
-use Rattle.pale_modes.specs.declared.status.Status.TheVariants.{Good, Limit}
+use Rattle.pale_status.specs.declared.status.Status.TheVariants.{Good, Limit}
 use Rattle.pale_modes.specs.Deciding.{HasSmallFormulas, Says, unsatisfiable, valid, satisfiable, too_large, above, status_of}
 
 some : {X : Type 0} {x y : X} → Some x ≡ Some y → x ≡ y

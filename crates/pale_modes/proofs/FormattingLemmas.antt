@@ -17,9 +17,9 @@ use Rattle.pale_syntax.specs.ProgramReading.{IsParsedAs, IsParseStop, IsProgram,
 use Rattle.pale_syntax.specs.ProgramWords.{kinds_in}
 use Rattle.pale_text.specs.TextStops.{IsFault, IsRefused, place_at}
 use Rattle.pale_print.specs.Spelling.{spelling}
-use Rattle.pale_modes.specs.declared.status.Status.{Status}
+use Rattle.pale_status.specs.declared.status.Status.{Status}
 use Rattle.pale_modes.specs.Formatting.{Formats, too_long, stray, unparsed, program}
-use Rattle.pale_modes.specs.Report.{refused_line}
+use Rattle.pale_status.specs.Report.{refused_line}
 
 -- ---- refusals
 

@@ -3,8 +3,8 @@ use Rattle.std.specs.Prelude.{ℕ, List}
 use Rattle.pale_replay.specs.declared.answer.Answer.{Answer}
 use Rattle.pale_replay.specs.declared.answer.Answer.TheVariants as answer
 use Rattle.ws2s_syntax.specs.Checked as checked
-use Rattle.pale_modes.specs.declared.status.Status.{Status}
-use Rattle.pale_modes.specs.declared.status.Status.TheVariants.{Good, Bad, Text, Limit}
+use Rattle.pale_status.specs.declared.status.Status.{Status}
+use Rattle.pale_status.specs.declared.status.Status.TheVariants.{Good, Bad, Text, Limit}
 use Rattle.pale_modes.specs.Deciding.{Decides, Says}
 use Rattle.pale_modes.specs.Deciding as deciding
 use Rattle.pale_modes.specs.Formatting.{Formats}

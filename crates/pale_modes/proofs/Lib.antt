@@ -1,7 +1,6 @@
 mod DecidingLemmas
 mod FormattingLemmas
 pub mod GivenLemmas
-pub mod WrittenLemmas
 pub mod CutLemmas
 pub mod ReplayedLemmas
 pub mod RanLemmas

@@ -16,8 +16,8 @@ use Rattle.pale_run.specs.declared.answer.Answer.{Answer}
 use Rattle.pale_run.specs.Lines.{text_of}
 use Rattle.pale_run.specs.Running.{proc_named, NamesRun, NamesNoRun, no_form, no_procedure, IsRefusedAt, nothing, no_run, no_store, SaysOf, IsRunOf, uncut, cut}
 use Rattle.pale_run.specs.Running as saying
-use Rattle.pale_modes.specs.declared.status.Status.{Status}
-use Rattle.pale_modes.specs.Texts.{most_bytes}
+use Rattle.pale_status.specs.declared.status.Status.{Status}
+use Rattle.pale_status.specs.Texts.{most_bytes}
 use Rattle.pale_modes.specs.Running.{Runs, status_of, too_long, refused, run}
 use Rattle.pale_modes.specs.Completing.{SpellsRun, TellsRun}
 use Rattle.pale_modes.proofs.CutLemmas.{one_cut, cut_or_not}

@@ -18,8 +18,8 @@ use Rattle.pale_replay.specs.Replaying.{NamesTriple, IsRefusedAt, nothing, no_tr
 use Rattle.pale_starts.specs.Stops.{IsPartStop, uncut_stop, cut_stop}
 use Rattle.pale_replay.specs.Replaying as saying
 use Rattle.pale_replay.specs.Lines.{line_of}
-use Rattle.pale_modes.specs.declared.status.Status.{Status}
-use Rattle.pale_modes.specs.Texts.{most_bytes}
+use Rattle.pale_status.specs.declared.status.Status.{Status}
+use Rattle.pale_status.specs.Texts.{most_bytes}
 use Rattle.pale_modes.specs.Replaying.{Replays, status_of, too_long, refused, replay}
 use Rattle.pale_modes.specs.Completing.{SpellsStore, TellsStore}
 use Rattle.pale_modes.proofs.CutLemmas.{one_cut, cut_or_not}

@@ -20,8 +20,8 @@ use Rattle.pale_trace.specs.Traces.{TripleSays, RunSays}
 use Rattle.pale_trace.specs.Tracing.{AsksIn, of_triple, of_run, AsksNothing, no_run, no_triple, IsRefusedAt, nothing, no_request, no_store}
 use Rattle.pale_trace.specs.Tracing.{SaysOf, IsTraceOf, uncut, cut}
 use Rattle.pale_trace.specs.Tracing as saying
-use Rattle.pale_modes.specs.declared.status.Status.{Status}
-use Rattle.pale_modes.specs.Texts.{most_bytes}
+use Rattle.pale_status.specs.declared.status.Status.{Status}
+use Rattle.pale_status.specs.Texts.{most_bytes}
 use Rattle.pale_modes.specs.Tracing.{Traces, status_of, too_long, refused, trace}
 use Rattle.pale_modes.specs.Completing.{SpellsStore, SpellsRun, TellsTrace, TellsTriple, TellsRunTrace}
 use Rattle.pale_modes.proofs.CutLemmas.{one_cut, cut_or_not}

@@ -23,7 +23,7 @@ use Rattle.pale_trace.specs.Traces.{TripleSays, RunSays}
 use Rattle.ws2s_syntax.specs.Checked as checked
 use Rattle.ws2s_read.specs.TextReading.{IsReadAs}
 use Rattle.ws2s_answer.specs.Within.{IsPeakWithin}
-use Rattle.pale_modes.specs.declared.status.Status.{Status}
+use Rattle.pale_status.specs.declared.status.Status.{Status}
 use Rattle.pale_modes.specs.Deciding.{HasSmallFormulas}
 use Rattle.pale_modes.specs.Replaying.{status_of}
 use Rattle.pale_modes.specs.Running as running

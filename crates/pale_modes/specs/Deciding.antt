@@ -11,10 +11,10 @@ use Rattle.ws2s_answer.specs.declared.answer.Answer.{Answer}
 use Rattle.ws2s_answer.specs.declared.answer.Answer.TheVariants as answer
 use Rattle.ws2s_answer.specs.Answering.{IsAnswer}
 use Rattle.ws2s_example.specs.Examples.{IsExampleText}
-use Rattle.pale_modes.specs.declared.status.Status.{Status}
-use Rattle.pale_modes.specs.declared.status.Status.TheVariants.{Good, Text, Limit}
-use Rattle.pale_modes.specs.Report.{refused_line, too_long_line}
-use Rattle.pale_modes.specs.Texts.{most_bytes}
+use Rattle.pale_status.specs.declared.status.Status.{Status}
+use Rattle.pale_status.specs.declared.status.Status.TheVariants.{Good, Text, Limit}
+use Rattle.pale_status.specs.Report.{refused_line, too_long_line}
+use Rattle.pale_status.specs.Texts.{most_bytes}
 
 -- both formulas of the text are small enough to be decided
 abbrev pub HasSmallFormulas : checked.Text → Type 0

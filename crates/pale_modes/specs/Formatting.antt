@@ -7,10 +7,10 @@ use Rattle.pale_syntax.specs.declared.tree.declaration.Program.{Program}
 use Rattle.pale_text.specs.Lexing.{IsLexed, IsLexStop}
 use Rattle.pale_syntax.specs.ProgramReading.{IsParsedAs, IsParseStop}
 use Rattle.pale_print.specs.Spelling.{spelling}
-use Rattle.pale_modes.specs.declared.status.Status.{Status}
-use Rattle.pale_modes.specs.declared.status.Status.TheVariants.{Good, Text}
-use Rattle.pale_modes.specs.Report.{refused_line, too_long_line}
-use Rattle.pale_modes.specs.Texts.{most_bytes}
+use Rattle.pale_status.specs.declared.status.Status.{Status}
+use Rattle.pale_status.specs.declared.status.Status.TheVariants.{Good, Text}
+use Rattle.pale_status.specs.Report.{refused_line, too_long_line}
+use Rattle.pale_status.specs.Texts.{most_bytes}
 
 -- what is written for a text, and the status: the text has too many bytes, has a stray byte, has tokens that are no program
 -- or open too many levels, or is a program

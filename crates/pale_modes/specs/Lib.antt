@@ -2,9 +2,5 @@ pub mod Completing
 pub mod Deciding
 pub mod Formatting
 pub mod Replaying
-pub mod Report
 pub mod Running
-pub mod Statuses
-pub mod Texts
 pub mod Tracing
-pub mod Written

@@ -8,10 +8,10 @@ use Rattle.pale_starts.specs.Stops.{IsPartStop}
 use Rattle.pale_run.specs.declared.answer.Answer.{Answer}
 use Rattle.pale_run.specs.declared.answer.Answer.TheVariants as answer
 use Rattle.pale_run.specs.Running.{IsRunOf}
-use Rattle.pale_modes.specs.declared.status.Status.{Status}
-use Rattle.pale_modes.specs.declared.status.Status.TheVariants.{Good, Bad, Text}
-use Rattle.pale_modes.specs.Report.{refused_line, too_long_line}
-use Rattle.pale_modes.specs.Texts.{most_bytes}
+use Rattle.pale_status.specs.declared.status.Status.{Status}
+use Rattle.pale_status.specs.declared.status.Status.TheVariants.{Good, Bad, Text}
+use Rattle.pale_status.specs.Report.{refused_line, too_long_line}
+use Rattle.pale_status.specs.Texts.{most_bytes}
 
 -- the status of a run's answer
 abbrev pub status_of_ran : whole.Answer → Status

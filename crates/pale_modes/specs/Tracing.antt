@@ -6,10 +6,10 @@ use Rattle.pale_starts.specs.Stops.{IsPartStop}
 use Rattle.pale_trace.specs.declared.ending.Ending.{Ending}
 use Rattle.pale_trace.specs.declared.ending.Ending.TheVariants as ending
 use Rattle.pale_trace.specs.Tracing.{IsTraceOf}
-use Rattle.pale_modes.specs.declared.status.Status.{Status}
-use Rattle.pale_modes.specs.declared.status.Status.TheVariants.{Good, Bad, Text}
-use Rattle.pale_modes.specs.Report.{refused_line, too_long_line}
-use Rattle.pale_modes.specs.Texts.{most_bytes}
+use Rattle.pale_status.specs.declared.status.Status.{Status}
+use Rattle.pale_status.specs.declared.status.Status.TheVariants.{Good, Bad, Text}
+use Rattle.pale_status.specs.Report.{refused_line, too_long_line}
+use Rattle.pale_status.specs.Texts.{most_bytes}
 
 -- the status by how it ends, which is that of `replay` and of `run`
 abbrev pub status_of : Ending → Status

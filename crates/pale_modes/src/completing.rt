@@ -2,11 +2,11 @@
 
 ghost use Rattle.std.specs.Prelude.{◌≡◌, ◌≤◌, ℕ, List, length};
 ghost use Rattle.ws2s_syntax.specs.Checked.{Text};
-ghost use Rattle.pale_modes.specs.declared.status.Status.{Status};
-ghost use Rattle.pale_modes.specs.declared.status.Status.TheVariants.{Good};
+ghost use Rattle.pale_status.specs.declared.status.Status.{Status};
+ghost use Rattle.pale_status.specs.declared.status.Status.TheVariants.{Good};
 ghost use Rattle.pale_modes.specs.Completing.{IsWithinPeak};
 ghost use Rattle.pale_modes.specs.Deciding.{Decides, Says};
-ghost use Rattle.pale_modes.specs.Texts.{most_bytes};
+ghost use Rattle.pale_status.specs.Texts.{most_bytes};
 
 use pale_text::{stray_byte_is_one, tokens_are_one};
 use ws2s_answer::limits_are_no_answers_within_the_peak;

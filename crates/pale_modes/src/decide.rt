@@ -6,13 +6,11 @@ ghost use Rattle.ws2s_example.specs.Examples.{HaveOnePosition, IsExampleText};
 ghost use Rattle.ws2s_answer.specs.Answering.{IsAnswer};
 ghost use Rattle.pale_words.specs.Words.{IsLimit};
 ghost use Rattle.pale_modes.specs.Deciding.{Decides, Says, HasSmallFormulas, status_of};
-ghost use Rattle.pale_modes.specs.Written.{Wrote, WroteAtMost};
-ghost use Rattle.pale_modes.specs.Texts.{most_bytes};
+ghost use Rattle.pale_status.specs.Written.{Wrote, WroteAtMost};
+ghost use Rattle.pale_status.specs.Texts.{most_bytes};
 
-use crate::Status;
-use crate::report::refuse;
-use crate::writing::say;
 use pale_io::{Sink, WriteStop};
+use pale_status::{Status, refuse, say};
 use std::alloc::{AllocError, Global};
 use ws2s_answer::{Answer, answer_of};
 use ws2s_core::LabelTree;

@@ -1,7 +1,7 @@
 //! What callers may rest on.
 
 ghost use Rattle.std.specs.Prelude.{◌≡◌, ℕ, List};
-ghost use Rattle.pale_modes.specs.declared.status.Status.{Status};
+ghost use Rattle.pale_status.specs.declared.status.Status.{Status};
 ghost use Rattle.pale_modes.specs.Formatting.{Formats};
 
 use pale_parse::one_program;

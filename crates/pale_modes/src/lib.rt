@@ -1,10 +1,8 @@
-//! The modes that judge no program: `replay`, `run`, `trace`, `format` and `ws2s`, each over a text and a sink of bytes, and what
-//! every mode shares: the status of a call, the lines and numbers that any mode may write, and how a call ends after what its sink
-//! left.
+//! The modes that judge no program: `replay`, `run`, `trace`, `format` and `ws2s`, each over a text and a sink of bytes.
 //!
 //! `specs/Replaying.antt`, `specs/Running.antt`, `specs/Tracing.antt`, `specs/Formatting.antt` and `specs/Deciding.antt` say what each
-//! of the five writes for a text and with which status; `specs/Written.antt` says what a sink was told of an allowed output, and
-//! `specs/Completing.antt` of which texts something is said whatever their size.
+//! of the five writes for a text and with which status, and `specs/Completing.antt` of which texts something is said whatever their
+//! size.
 #![tactic(auto)]
 
 mod completing;
@@ -12,20 +10,13 @@ mod decide;
 mod format;
 mod laws;
 mod replay;
-mod report;
 mod run;
-mod status;
 mod trace;
-mod writing;
 
 pub use completing::texts_within_their_peaks_are_decided;
 pub use decide::decide_text;
 pub use format::format_text;
 pub use laws::formatting_is_one;
 pub use replay::replay_text;
-pub use report::refuse;
 pub use run::run_text;
-pub use status::Status;
-pub use store_words::push_number;
 pub use trace::trace_text;
-pub use writing::{ended, say};

@@ -1,15 +1,13 @@
 //! The mode `replay`: a store executed through a triple of a program.
 ghost use Rattle.std.specs.Prelude.{◌≡◌, ◌≤◌, length, IfOk, OnErr, IsErrOf};
 ghost use Rattle.pale_io.specs.Faults.{Rose};
-ghost use Rattle.pale_modes.specs.Written.{Wrote, WroteAtMost};
+ghost use Rattle.pale_status.specs.Written.{Wrote, WroteAtMost};
 ghost use Rattle.pale_modes.specs.Replaying.{Replays, status_of};
-ghost use Rattle.pale_modes.specs.Texts.{most_bytes};
+ghost use Rattle.pale_status.specs.Texts.{most_bytes};
 
-use crate::Status;
-use crate::report::refuse;
-use crate::writing::say;
 use pale_io::{Sink, WriteStop};
 use pale_replay::{Answer, replay};
+use pale_status::{Status, refuse, say};
 use std::alloc::Global;
 
 fn status_of(answer: Answer) -> Status

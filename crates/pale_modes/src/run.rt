@@ -1,15 +1,13 @@
 //! The mode `run`: a whole run of a procedure of a program from a store.
 ghost use Rattle.std.specs.Prelude.{◌≡◌, ◌≤◌, length, IfOk, OnErr, IsErrOf};
 ghost use Rattle.pale_io.specs.Faults.{Rose};
-ghost use Rattle.pale_modes.specs.Written.{Wrote, WroteAtMost};
+ghost use Rattle.pale_status.specs.Written.{Wrote, WroteAtMost};
 ghost use Rattle.pale_modes.specs.Running.{Runs, status_of, status_of_ran};
-ghost use Rattle.pale_modes.specs.Texts.{most_bytes};
+ghost use Rattle.pale_status.specs.Texts.{most_bytes};
 
-use crate::Status;
-use crate::report::refuse;
-use crate::writing::say;
 use pale_io::{Sink, WriteStop};
 use pale_run::{Answer, run};
+use pale_status::{Status, refuse, say};
 use std::alloc::Global;
 
 fn status_of_ran(answer: &whole_exec::Answer) -> Status

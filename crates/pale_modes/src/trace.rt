@@ -1,14 +1,12 @@
 //! The mode `trace`: each step of a store's execution through a triple, or of a procedure's run.
 ghost use Rattle.std.specs.Prelude.{◌≡◌, ◌≤◌, length, IfOk, OnErr, IsErrOf};
 ghost use Rattle.pale_io.specs.Faults.{Rose};
-ghost use Rattle.pale_modes.specs.Written.{Wrote, WroteAtMost};
+ghost use Rattle.pale_status.specs.Written.{Wrote, WroteAtMost};
 ghost use Rattle.pale_modes.specs.Tracing.{Traces, status_of};
-ghost use Rattle.pale_modes.specs.Texts.{most_bytes};
+ghost use Rattle.pale_status.specs.Texts.{most_bytes};
 
-use crate::Status;
-use crate::report::refuse;
-use crate::writing::say;
 use pale_io::{Sink, WriteStop};
+use pale_status::{Status, refuse, say};
 use pale_trace::{Ending, trace};
 use std::alloc::Global;
 

@@ -15,18 +15,18 @@ use Rattle.pale_words.specs.declared.words.Mode.TheVariants.{Check, Replay, Form
 use Rattle.pale_words.specs.declared.words.Settings.{Settings}
 use Rattle.pale_words.specs.Words.{AsksFor, Gives, IsRefused}
 use Rattle.pale_words.proofs.GivesLemmas.{not_refused, same_mode}
-use Rattle.pale_modes.specs.declared.status.Status.{Status}
-use Rattle.pale_modes.specs.declared.status.Status.TheVariants.{Good, Bad, Words, Text, Limit, Memory, ReadFault, WriteFault}
+use Rattle.pale_status.specs.declared.status.Status.{Status}
+use Rattle.pale_status.specs.declared.status.Status.TheVariants.{Good, Bad, Words, Text, Limit, Memory, ReadFault, WriteFault}
 use Rattle.pale_modes.proofs.GivenLemmas.{IsGiven, decided_given, formatted_given, replayed_given, run_given, traced_given}
-use Rattle.pale_modes.proofs.WrittenLemmas.{Wrote-weaker, WroteAtMost-weaker}
+use Rattle.pale_status.proofs.WrittenLemmas.{Wrote-weaker, WroteAtMost-weaker}
 use Rattle.pale_modes.specs.Formatting as formatting
 use Rattle.pale_modes.specs.Replaying as replaying
 use Rattle.pale_modes.specs.Running as running
 use Rattle.pale_modes.specs.Tracing as tracing
 use Rattle.pale_modes.specs.Deciding as deciding
-use Rattle.pale_modes.specs.Written.{EndsBy, Wrote, WroteAtMost}
-use Rattle.pale_modes.specs.Report.{too_long_line}
-use Rattle.pale_modes.specs.Texts.{most_bytes}
+use Rattle.pale_status.specs.Written.{EndsBy, Wrote, WroteAtMost}
+use Rattle.pale_status.specs.Report.{too_long_line}
+use Rattle.pale_status.specs.Texts.{most_bytes}
 use Rattle.program_judge.specs.declared.ways.Ending.{Ending}
 use Rattle.program_judge.specs.declared.ways.Ending.TheVariants as ending
 use Rattle.pale_judging.specs.Checking.{Checks}

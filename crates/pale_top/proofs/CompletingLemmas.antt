@@ -17,8 +17,8 @@ use Rattle.pale_words.specs.declared.words.Mode.TheVariants.{Check, Replay, Form
 use Rattle.pale_words.specs.declared.words.Settings.{Settings}
 use Rattle.pale_words.specs.Words.{AsksFor, Gives, IsRefused}
 use Rattle.pale_words.proofs.GivesLemmas.{not_refused, same_limit, same_mode}
-use Rattle.pale_modes.specs.declared.status.Status.{Status}
-use Rattle.pale_modes.specs.declared.status.Status.TheVariants.{Good}
+use Rattle.pale_status.specs.declared.status.Status.{Status}
+use Rattle.pale_status.specs.declared.status.Status.TheVariants.{Good}
 use Rattle.pale_modes.specs.Completing.{IsWithinPeak}
 use Rattle.pale_modes.specs.Deciding.{Decides, Says}
 use Rattle.pale_modes.specs.Formatting.{Formats}
@@ -26,8 +26,8 @@ use Rattle.pale_modes.specs.Formatting as formatting
 use Rattle.pale_modes.specs.Replaying.{Replays}
 use Rattle.pale_modes.specs.Running.{Runs}
 use Rattle.pale_modes.specs.Tracing.{Traces}
-use Rattle.pale_modes.specs.Texts.{most_bytes}
-use Rattle.pale_modes.specs.Written.{Wrote}
+use Rattle.pale_status.specs.Texts.{most_bytes}
+use Rattle.pale_status.specs.Written.{Wrote}
 use Rattle.pale_modes.proofs.ReplayedLemmas as replayed
 use Rattle.pale_modes.proofs.RanLemmas.{ran_so}
 use Rattle.pale_modes.proofs.TracedLemmas.{traced_so, run_traced_so}

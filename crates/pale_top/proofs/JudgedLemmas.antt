@@ -16,8 +16,8 @@ use Rattle.pale_parts.specs.declared.request.Request.TheVariants as request
 use Rattle.pale_parts.specs.declared.request.RequestFault.{RequestFault}
 use Rattle.pale_parts.specs.Requests.{Asks, fields, triple, IsRequest, IsRequestFault, nothing, no_form, no_triple, too_much}
 use Rattle.pale_starts.specs.Stops.{IsPartStop, uncut_stop, cut_stop}
-use Rattle.pale_modes.specs.declared.status.Status.{Status}
-use Rattle.pale_modes.specs.Texts.{most_bytes}
+use Rattle.pale_status.specs.declared.status.Status.{Status}
+use Rattle.pale_status.specs.Texts.{most_bytes}
 use Rattle.pale_modes.proofs.CutLemmas.{one_cut, cut_or_not}
 use Rattle.program_judge.specs.declared.ways.FieldWay.{FieldWay}
 use Rattle.program_judge.specs.declared.ways.TripleWay.{TripleWay}

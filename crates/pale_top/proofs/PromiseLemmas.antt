@@ -9,9 +9,9 @@ use Rattle.pale_words.specs.declared.words.Mode.TheVariants.{Check, Replay, Form
 use Rattle.pale_words.specs.declared.words.Settings.{Settings}
 use Rattle.pale_words.specs.Words.{AsksFor, Gives}
 use Rattle.pale_words.proofs.GivesLemmas.{not_refused, same_limit, same_mode}
-use Rattle.pale_modes.specs.declared.status.Status.{Status}
-use Rattle.pale_modes.specs.declared.status.Status.TheVariants.{Good, Bad}
-use Rattle.pale_modes.specs.Texts.{most_bytes}
+use Rattle.pale_status.specs.declared.status.Status.{Status}
+use Rattle.pale_status.specs.declared.status.Status.TheVariants.{Good, Bad}
+use Rattle.pale_status.specs.Texts.{most_bytes}
 use Rattle.program_judge.specs.declared.ways.Ending.{Ending}
 use Rattle.program_judge.specs.declared.ways.Ending.TheVariants as ending
 use Rattle.program_judge.specs.Reports.{ReportsProgram}

@@ -18,8 +18,8 @@ use Rattle.pale_run.specs.Runs.{RunsFrom, not_well_formed, start_false, ran}
 use Rattle.pale_run.specs.Running.{SaysOf, refused, store, IsRunOf, uncut, cut}
 use Rattle.pale_words.specs.declared.words.Mode.TheVariants.{Run}
 use Rattle.pale_words.specs.Words.{AsksFor}
-use Rattle.pale_modes.specs.declared.status.Status.{Status}
-use Rattle.pale_modes.specs.declared.status.Status.TheVariants.{Bad}
+use Rattle.pale_status.specs.declared.status.Status.{Status}
+use Rattle.pale_status.specs.declared.status.Status.TheVariants.{Bad}
 use Rattle.pale_modes.specs.Running.{Runs, status_of, status_of_ran}
 use Rattle.pale_modes.specs.Running as running
 use Rattle.pale_modes.proofs.CutLemmas.{one_cut}

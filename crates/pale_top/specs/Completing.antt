@@ -20,11 +20,11 @@ use Rattle.pale_parts.specs.Requests.{IsRequest}
 use Rattle.pale_io.specs.Whole.{WritesAll}
 use Rattle.pale_words.specs.declared.words.Mode.TheVariants.{Check, Replay, Format, Ws2s, Judge, Meet, Run, Trace}
 use Rattle.pale_words.specs.declared.words.Settings.{Settings}
-use Rattle.pale_modes.specs.declared.status.Status.{Status}
-use Rattle.pale_modes.specs.declared.status.Status.TheVariants.{Good}
+use Rattle.pale_status.specs.declared.status.Status.{Status}
+use Rattle.pale_status.specs.declared.status.Status.TheVariants.{Good}
 use Rattle.pale_modes.specs.Completing.{SpellsStore, TellsStore, SpellsRun, TellsRun, TellsTriple, TellsRunTrace, IsWithinPeak}
 use Rattle.pale_modes.specs.Deciding.{Says}
-use Rattle.pale_modes.specs.Written.{Wrote}
+use Rattle.pale_status.specs.Written.{Wrote}
 use Rattle.program_judge.specs.declared.ways.FieldWay.{FieldWay}
 use Rattle.program_judge.specs.declared.ways.TripleWay.{TripleWay}
 use Rattle.program_judge.specs.declared.ways.TripleWay.TheVariants as tripled

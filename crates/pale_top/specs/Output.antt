@@ -4,14 +4,14 @@ use Rattle.std.specs.Prelude.{◌≡◌, ℕ, List, codes, Option, IfSome}
 use Rattle.pale_words.specs.declared.words.Mode.TheVariants.{Check, Replay, Format, Ws2s, Judge, Meet, Run, Trace, Gen}
 use Rattle.pale_words.specs.declared.words.Settings.{Settings}
 use Rattle.pale_words.specs.Words.{Gives, IsRefused}
-use Rattle.pale_modes.specs.declared.status.Status.{Status}
-use Rattle.pale_modes.specs.declared.status.Status.TheVariants.{Words, Memory, ReadFault, WriteFault}
+use Rattle.pale_status.specs.declared.status.Status.{Status}
+use Rattle.pale_status.specs.declared.status.Status.TheVariants.{Words, Memory, ReadFault, WriteFault}
 use Rattle.pale_modes.specs.Deciding.{Decides}
 use Rattle.pale_modes.specs.Formatting.{Formats}
 use Rattle.pale_modes.specs.Replaying.{Replays}
 use Rattle.pale_modes.specs.Running.{Runs}
 use Rattle.pale_modes.specs.Tracing.{Traces}
-use Rattle.pale_modes.specs.Written.{Wrote, WroteAtMost}
+use Rattle.pale_status.specs.Written.{Wrote, WroteAtMost}
 use Rattle.pale_judging.specs.Checking.{Checks}
 use Rattle.pale_judging.specs.Generating.{Gens}
 use Rattle.pale_judging.specs.Judging.{Judges}

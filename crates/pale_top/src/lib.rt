@@ -8,5 +8,5 @@ mod call;
 mod text;
 
 pub use call::pale_main;
-pub use pale_modes::Status;
+pub use pale_status::Status;
 pub use text::pale_bytes;

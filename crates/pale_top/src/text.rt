@@ -6,9 +6,9 @@ ghost use Rattle.pale_generator.specs.Generated.{program_text};
 ghost use Rattle.whole_program.specs.ProgramTexts.{IsReadAs};
 ghost use Rattle.pale_words.specs.Words.{AsksFor, Gives, IsLimit};
 ghost use Rattle.pale_parts.specs.Parts.{IsCutAs};
-ghost use Rattle.pale_modes.specs.Report.{too_long_line};
-ghost use Rattle.pale_modes.specs.Texts.{most_bytes};
-ghost use Rattle.pale_modes.specs.Written.{Wrote, WroteAtMost};
+ghost use Rattle.pale_status.specs.Report.{too_long_line};
+ghost use Rattle.pale_status.specs.Texts.{most_bytes};
+ghost use Rattle.pale_status.specs.Written.{Wrote, WroteAtMost};
 ghost use Rattle.program_promises.specs.Safety.{IsSafe};
 ghost use Rattle.program_promises.specs.Completeness.{IsWithinPeaks};
 ghost use Rattle.pale_top.specs.Completing.{Completes, GensEach};
@@ -17,9 +17,10 @@ ghost use Rattle.pale_top.specs.Output.{IsAnswer, IsCutShort, CallOutput, Output
 use pale_io::{Sink, WriteStop};
 use pale_judging::{check_text, gen_text, judge_text, meet_text};
 use pale_modes::{
-    Status, decide_text, ended, format_text, formatting_is_one, replay_text, run_text, say,
+    decide_text, format_text, formatting_is_one, replay_text, run_text,
     texts_within_their_peaks_are_decided, trace_text,
 };
+use pale_status::{MOST_BYTES, Status, ended, say};
 use pale_words::{Mode, Settings, WordsStop, read_words};
 use program_judge::meet_laws::starts_are_told_within_their_peaks;
 use program_promises::{
@@ -28,9 +29,6 @@ use program_promises::{
 };
 use std::alloc::Global;
 use ws2s_pass::PassList;
-
-/// The most bytes that a text may have.
-pub(crate) const MOST_BYTES: usize = 1_048_576;
 
 /// Writes what the settings give for a text, in the modes that read one.
 fn answer_text<K: Sink>(

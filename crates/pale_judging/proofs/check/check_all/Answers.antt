@@ -3,8 +3,8 @@ use Rattle.bdd_nodes.specs.Shelf.{limit_of}
 use Rattle.pale_io.specs.Whole.{WritesAll, WritesFront}
 use Rattle.program_judge.specs.declared.ways.Ending.{Ending}
 use Rattle.program_judge.specs.Reports.{ReportsAll, judged_ending, totals_of}
-use Rattle.pale_modes.specs.Written.{Wrote}
-use Rattle.pale_modes.proofs.WrittenLemmas.{on_err}
+use Rattle.pale_status.specs.Written.{Wrote}
+use Rattle.pale_status.proofs.WrittenLemmas.{on_err}
 use Rattle.pale_judging.proofs.CheckingLemmas.{before_totals, totals_begin, totals_whole}
 use Rattle.pale_judging.proofs.check.check_all.Goals as goal
 

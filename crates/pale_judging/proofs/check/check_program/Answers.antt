@@ -5,8 +5,8 @@ use Rattle.bdd_nodes.specs.Shelf.{limit_of}
 use Rattle.program_judge.specs.declared.ways.Ending.{Ending}
 use Rattle.program_judge.specs.Reports.{ReportsAll, ReportsFields, ReportsProgram, is_functional, pointer_fields, stopped_ending}
 use Rattle.program_judge.proofs.EndingLemmas.{all-functional}
-use Rattle.pale_modes.specs.Written.{Wrote, WroteAtMost}
-use Rattle.pale_modes.proofs.WrittenLemmas.{on_err, on_err_weaker}
+use Rattle.pale_status.specs.Written.{Wrote, WroteAtMost}
+use Rattle.pale_status.proofs.WrittenLemmas.{on_err, on_err_weaker}
 use Rattle.pale_judging.proofs.CheckingLemmas.{fields_cut, judged_begins, judged_whole, stopped_begins, stopped_whole}
 use Rattle.pale_judging.specs.Checking.{WroteFields}
 use Rattle.pale_judging.proofs.check.check_program.Goals as goal

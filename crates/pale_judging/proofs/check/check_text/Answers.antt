@@ -1,10 +1,10 @@
 use Rattle.std.proofs.Common.{subst, sym}
 use Rattle.whole_program.specs.ProgramTexts.{IsStopOf}
 use Rattle.program_judge.specs.Reports.{ReportsProgram}
-use Rattle.pale_modes.specs.declared.status.Status.{Status}
+use Rattle.pale_status.specs.declared.status.Status.{Status}
 use Rattle.pale_judging.specs.Checking.{Checks, refused, judged, status_of}
-use Rattle.pale_modes.specs.Written.{Wrote}
-use Rattle.pale_modes.proofs.WrittenLemmas.{on_err, refused_begun, refused_whole, Wrote-turned, WroteAtMost-turned}
+use Rattle.pale_status.specs.Written.{Wrote}
+use Rattle.pale_status.proofs.WrittenLemmas.{on_err, refused_begun, refused_whole, Wrote-turned, WroteAtMost-turned}
 use Rattle.pale_judging.proofs.check.check_text.Goals as goal
 
 pub returns-in_err-how-in-Ok-clause-err : goal.returns-in_err-how-in-Ok-clause-err

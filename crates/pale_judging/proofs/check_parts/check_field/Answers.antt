@@ -1,6 +1,6 @@
 use Rattle.std.proofs.Common.{List, ℕ, inl, inr, refl, subst}
 use Rattle.pale_io.specs.Whole.{WritesAll, WritesFront}
-use Rattle.pale_modes.proofs.WrittenLemmas.{on_err}
+use Rattle.pale_status.proofs.WrittenLemmas.{on_err}
 use Rattle.pale_judging.proofs.check_parts.check_field.Goals as goal
 
 -- nothing was written yet

@@ -5,8 +5,8 @@ use Rattle.store_core.specs.declared.ids.FieldId.{FieldId}
 use Rattle.store_core.specs.Tables.{TypeEntry}
 use Rattle.program_judge.specs.declared.ways.FieldWay.{FieldWay}
 use Rattle.program_judge.specs.Reports.{ReportsField, pointer_fields}
-use Rattle.pale_modes.specs.Written.{Wrote, WroteAtMost}
-use Rattle.pale_modes.proofs.WrittenLemmas.{on_err}
+use Rattle.pale_status.specs.Written.{Wrote, WroteAtMost}
+use Rattle.pale_status.proofs.WrittenLemmas.{on_err}
 use Rattle.pale_judging.proofs.CheckingLemmas.{FieldsWrote, fields_start, fields_next, fields_begin, field_begins, fields_whole}
 use Rattle.pale_judging.proofs.check_parts.check_fields.Goals as goal
 

@@ -4,8 +4,8 @@ use Rattle.store_exec.specs.declared.triple.Triple.{Triple}
 use Rattle.hoare_split.specs.Fitting.{FitsProgram}
 use Rattle.program_judge.specs.declared.ways.TripleWay.{TripleWay}
 use Rattle.program_judge.specs.Reports.{ReportsTriple}
-use Rattle.pale_modes.specs.Written.{Wrote, WroteAtMost}
-use Rattle.pale_modes.proofs.WrittenLemmas.{on_err}
+use Rattle.pale_status.specs.Written.{Wrote, WroteAtMost}
+use Rattle.pale_status.proofs.WrittenLemmas.{on_err}
 use Rattle.pale_judging.proofs.CheckingLemmas.{TriplesWrote, triples_start, triples_next, triples_begin, triple_begins, triples_whole}
 use Rattle.pale_judging.proofs.check_parts.check_triples.Goals as goal
 

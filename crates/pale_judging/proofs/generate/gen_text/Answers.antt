@@ -1,11 +1,11 @@
 use Rattle.std.proofs.Common.{◌≡◌, ◌∙◌, ◌<◌, ◌≤◌, ℕ, List, length, ap, subst, arith}
 use Rattle.pale_generator.specs.Generated.{program_text}
 use Rattle.whole_program.specs.ProgramTexts.{IsReadAs, IsStopOf}
-use Rattle.pale_modes.specs.declared.status.Status.TheVariants.{Text}
+use Rattle.pale_status.specs.declared.status.Status.TheVariants.{Text}
 use Rattle.pale_judging.specs.Generating.{Gens, Tells, counted, refused, too_long}
-use Rattle.pale_modes.specs.Report.{too_long_line}
-use Rattle.pale_modes.specs.Texts.{most_bytes}
-use Rattle.pale_modes.proofs.WrittenLemmas.{begun-weaker, refused_begun, refused_whole, said_begun, said_whole, whole-weaker}
+use Rattle.pale_status.specs.Report.{too_long_line}
+use Rattle.pale_status.specs.Texts.{most_bytes}
+use Rattle.pale_status.proofs.WrittenLemmas.{begun-weaker, refused_begun, refused_whole, said_begun, said_whole, whole-weaker}
 use Rattle.pale_judging.proofs.generate.gen_text.Goals as goal
 
 pub returns-then-len-gt-MOST_BYTES-clause-ok : goal.returns-then-len-gt-MOST_BYTES-clause-ok

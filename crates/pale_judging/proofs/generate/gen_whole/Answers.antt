@@ -1,10 +1,10 @@
 use Rattle.std.proofs.Common.{◌≡◌, ◌∙◌, ℕ, List, length, ap, subst, sym}
 use Rattle.store_exec.specs.declared.triple.Triple.{Triple}
 use Rattle.program_judge.specs.declared.ways.TripleWay.{TripleWay}
-use Rattle.pale_modes.specs.declared.status.Status.{Status}
+use Rattle.pale_status.specs.declared.status.Status.{Status}
 use Rattle.pale_judging.specs.Checking.{status_of}
 use Rattle.pale_judging.specs.Generating.{Tells, told, gen_line}
-use Rattle.pale_modes.proofs.WrittenLemmas.{said_begun, said_whole}
+use Rattle.pale_status.proofs.WrittenLemmas.{said_begun, said_whole}
 use Rattle.pale_judging.proofs.generate.gen_whole.Goals as goal
 
 pub returns-clause-ok : goal.returns-clause-ok

@@ -1,7 +1,7 @@
 use Rattle.std.proofs.Common.{◌≡◌, ◌∙◌, ◌++◌, ℕ, List, ap, codes}
 use Rattle.std.specs.Fmt.{decimal}
 use Rattle.pale_judging.specs.Generating.{gen_sizes}
-use Rattle.pale_modes.proofs.WrittenLemmas.{four_pieces, on_ok_weaker}
+use Rattle.pale_status.proofs.WrittenLemmas.{four_pieces, on_ok_weaker}
 use Rattle.pale_judging.proofs.generate.push_sizes.Goals as goal
 
 pub returns : goal.returns

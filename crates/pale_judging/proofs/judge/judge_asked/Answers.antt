@@ -4,10 +4,10 @@ use Rattle.hoare_split.specs.Fitting.{FitsProgram}
 use Rattle.pale_parts.specs.declared.request.Request.{Request}
 use Rattle.pale_parts.specs.Requests.{IsRequest}
 use Rattle.pale_replay.proofs.ArrivalLemmas.{there}
-use Rattle.pale_modes.specs.declared.status.Status.{Status}
-use Rattle.pale_modes.specs.declared.status.Status.TheVariants.{Good}
-use Rattle.pale_modes.specs.Written.{Wrote, WroteAtMost}
-use Rattle.pale_modes.proofs.WrittenLemmas.{on_err}
+use Rattle.pale_status.specs.declared.status.Status.{Status}
+use Rattle.pale_status.specs.declared.status.Status.TheVariants.{Good}
+use Rattle.pale_status.specs.Written.{Wrote, WroteAtMost}
+use Rattle.pale_status.proofs.WrittenLemmas.{on_err}
 use Rattle.program_judge.specs.Reports.{ReportsTriple}
 use Rattle.pale_judging.specs.Judging.{JudgesRequest, status_of_way}
 use Rattle.pale_judging.proofs.JudgingLemmas.{asked_there, fields_judged, triple_judged, triple_begun}

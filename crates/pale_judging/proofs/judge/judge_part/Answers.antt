@@ -2,8 +2,8 @@ use Rattle.std.proofs.Common.{◌∙◌, ℕ, List, length, subst, sym}
 use Rattle.std.specs.Prelude.{IfSome}
 use Rattle.store_text.specs.Lines.{lines_of}
 use Rattle.pale_parts.specs.Requests.{IsRequest, IsRequestFault}
-use Rattle.pale_modes.specs.declared.status.Status.TheVariants.{Text}
-use Rattle.pale_modes.proofs.WrittenLemmas.{begun-weaker, whole-weaker, said_begun, said_whole}
+use Rattle.pale_status.specs.declared.status.Status.TheVariants.{Text}
+use Rattle.pale_status.proofs.WrittenLemmas.{begun-weaker, whole-weaker, said_begun, said_whole}
 use Rattle.pale_judging.specs.Judging.{JudgesRequest, JudgesPart}
 use Rattle.pale_judging.proofs.JudgingLemmas.{lines_in, part_asked, part_refused, asked_part}
 use Rattle.pale_judging.proofs.judge.judge_part.Goals as goal

@@ -1,6 +1,6 @@
 use Rattle.std.proofs.Common.{subst}
 use Rattle.pale_starts.specs.Stops.{IsPartStop}
-use Rattle.pale_modes.proofs.WrittenLemmas.{begun-weaker, whole-weaker, refused_begun, refused_whole}
+use Rattle.pale_status.proofs.WrittenLemmas.{begun-weaker, whole-weaker, refused_begun, refused_whole}
 use Rattle.pale_judging.specs.Judging.{Judges, JudgesPart, refused}
 use Rattle.pale_judging.proofs.JudgingLemmas.{lines_in, by_cut, stop_by_cut}
 use Rattle.pale_judging.proofs.judge.judge_text.Goals as goal

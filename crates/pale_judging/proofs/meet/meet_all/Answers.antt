@@ -1,11 +1,11 @@
 use Rattle.std.proofs.Common.{◌≡◌, ◌∙◌, ℕ, List, ap, subst, sym}
 use Rattle.bdd_nodes.specs.Shelf.{limit_of}
 use Rattle.pale_io.specs.Whole.{WritesAll, WritesFront}
-use Rattle.pale_modes.specs.declared.status.Status.{Status}
+use Rattle.pale_status.specs.declared.status.Status.{Status}
 use Rattle.program_judge.specs.Meets.{totals_of}
 use Rattle.pale_judging.specs.Meeting.{MeetsProgram, meet_status}
-use Rattle.pale_modes.specs.Written.{Wrote}
-use Rattle.pale_modes.proofs.WrittenLemmas.{on_err}
+use Rattle.pale_status.specs.Written.{Wrote}
+use Rattle.pale_status.proofs.WrittenLemmas.{on_err}
 use Rattle.pale_judging.proofs.MeetingLemmas.{before_totals, totals_begin, totals_whole}
 use Rattle.pale_judging.proofs.meet.meet_all.Goals as goal
 

@@ -2,11 +2,11 @@ use Rattle.std.proofs.Common.{◌≡◌, ◌∙◌, ℕ, List, Option, true, fal
 use Rattle.std.specs.List.{list_all}
 use Rattle.std.proofs.lemmas.Result.{IfOk-weaker}
 use Rattle.bdd_nodes.specs.Shelf.{limit_of}
-use Rattle.pale_modes.specs.declared.status.Status.{Status}
+use Rattle.pale_status.specs.declared.status.Status.{Status}
 use Rattle.program_judge.specs.Reports.{ReportsFields, is_functional, pointer_fields, stopped_ending}
 use Rattle.program_judge.proofs.EndingLemmas.{all-functional}
-use Rattle.pale_modes.specs.Written.{Wrote, WroteAtMost}
-use Rattle.pale_modes.proofs.WrittenLemmas.{on_err, on_err_weaker}
+use Rattle.pale_status.specs.Written.{Wrote, WroteAtMost}
+use Rattle.pale_status.proofs.WrittenLemmas.{on_err, on_err_weaker}
 use Rattle.pale_judging.specs.Checking.{status_of, WroteFields}
 use Rattle.pale_judging.specs.Meeting.{MeetsProgram, stopped}
 use Rattle.pale_judging.proofs.JudgingLemmas.{stopped_begins, stopped_whole, stop_among_fields, behind_fields}

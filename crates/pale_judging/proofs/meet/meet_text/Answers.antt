@@ -1,6 +1,6 @@
 use Rattle.std.proofs.Common.{subst}
 use Rattle.whole_program.specs.ProgramTexts.{IsStopOf}
-use Rattle.pale_modes.proofs.WrittenLemmas.{begun-weaker, whole-weaker, refused_begun, refused_whole}
+use Rattle.pale_status.proofs.WrittenLemmas.{begun-weaker, whole-weaker, refused_begun, refused_whole}
 use Rattle.pale_judging.specs.Meeting.{MeetsProgram, MeetsText, refused, met}
 use Rattle.pale_judging.proofs.meet.meet_text.Goals as goal
 

@@ -4,8 +4,8 @@ use Rattle.store_exec.specs.declared.triple.Triple.{Triple}
 use Rattle.hoare_split.specs.Fitting.{FitsProgram}
 use Rattle.program_judge.specs.declared.meet_way.MeetWay.{MeetWay}
 use Rattle.program_judge.specs.Meets.{ReportsMeet}
-use Rattle.pale_modes.specs.Written.{Wrote, WroteAtMost}
-use Rattle.pale_modes.proofs.WrittenLemmas.{on_err}
+use Rattle.pale_status.specs.Written.{Wrote, WroteAtMost}
+use Rattle.pale_status.proofs.WrittenLemmas.{on_err}
 use Rattle.pale_judging.proofs.MeetingLemmas.{MeetsWrote, meets_start, meets_next, meets_begin, meet_begins, meets_whole}
 use Rattle.pale_judging.proofs.meet.meet_triples.Goals as goal
 

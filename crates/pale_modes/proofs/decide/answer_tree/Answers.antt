@@ -1,7 +1,7 @@
 use Rattle.std.proofs.Common.{rules}
-use Rattle.pale_modes.specs.declared.status.Status.TheVariants.{Text}
+use Rattle.pale_status.specs.declared.status.Status.TheVariants.{Text}
 use Rattle.pale_modes.specs.Deciding.{Says, big, big_line}
-use Rattle.pale_modes.proofs.WrittenLemmas.{said_whole, said_begun}
+use Rattle.pale_status.proofs.WrittenLemmas.{said_whole, said_begun}
 use Rattle.pale_modes.proofs.decide.answer_tree.Goals as goal
 
 pub returns-in-Err-BigFormula-clause-ok : goal.returns-in-Err-BigFormula-clause-ok

@@ -1,7 +1,7 @@
 use Rattle.std.proofs.Common.{subst}
 use Rattle.ws2s_read.specs.TextReading.{IsReadStop}
 use Rattle.pale_modes.specs.Deciding.{Says, Decides, read, refused}
-use Rattle.pale_modes.proofs.WrittenLemmas.{begun-weaker, refused_begun, refused_whole, whole-weaker}
+use Rattle.pale_status.proofs.WrittenLemmas.{begun-weaker, refused_begun, refused_whole, whole-weaker}
 use Rattle.pale_modes.proofs.decide.decide_text.Goals as goal
 
 pub returns-in-Ok-clause-ok : goal.returns-in-Ok-clause-ok

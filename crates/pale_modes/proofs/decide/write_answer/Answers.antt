@@ -1,7 +1,7 @@
 use Rattle.std.proofs.Common.{List, ℕ, subst, sym}
-use Rattle.pale_modes.specs.declared.status.Status.{Status}
+use Rattle.pale_status.specs.declared.status.Status.{Status}
 use Rattle.pale_modes.specs.Deciding.{Says, status_of}
-use Rattle.pale_modes.proofs.WrittenLemmas.{said_whole, said_begun}
+use Rattle.pale_status.proofs.WrittenLemmas.{said_whole, said_begun}
 use Rattle.pale_modes.proofs.decide.write_answer.Goals as goal
 
 pub returns-clause-ok : goal.returns-clause-ok

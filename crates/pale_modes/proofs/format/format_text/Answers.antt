@@ -1,7 +1,7 @@
 use Rattle.std.proofs.Common.{Err, ap}
 use Rattle.pale_text.specs.declared.refusal.TextStop.{TextStop}
 use Rattle.pale_modes.specs.Formatting.{Formats}
-use Rattle.pale_modes.proofs.WrittenLemmas.{refused_begun, refused_whole}
+use Rattle.pale_status.proofs.WrittenLemmas.{refused_begun, refused_whole}
 use Rattle.pale_modes.proofs.format.format_text.Goals as goal
 
 pub returns-in-Err-clause-ok : goal.returns-in-Err-clause-ok

@@ -1,8 +1,8 @@
 use Rattle.std.proofs.Common.{List, ℕ, subst, sym}
 use Rattle.pale_starts.specs.Stops.{IsPartStop}
-use Rattle.pale_modes.specs.declared.status.Status.{Status}
+use Rattle.pale_status.specs.declared.status.Status.{Status}
 use Rattle.pale_modes.specs.Tracing.{Traces, trace, refused, status_of}
-use Rattle.pale_modes.proofs.WrittenLemmas.{refused_begun, refused_whole, said_begun, said_whole}
+use Rattle.pale_status.proofs.WrittenLemmas.{refused_begun, refused_whole, said_begun, said_whole}
 use Rattle.pale_modes.proofs.trace.trace_text.Goals as goal
 
 pub returns-in-Ok-clause-ok : goal.returns-in-Ok-clause-ok

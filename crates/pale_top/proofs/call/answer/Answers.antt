@@ -1,9 +1,9 @@
 use Rattle.std.proofs.Common.{◌≡◌, List, ℕ, rules, refl, sym, subst, inl, map}
 use Rattle.std.specs.Prelude.{◌⊎◌, IfSome}
 use Rattle.std.specs.String.{string_bytes}
-use Rattle.pale_modes.specs.declared.status.Status.TheVariants.{Good, Bad, Text}
-use Rattle.pale_modes.specs.Report.{too_long_line}
-use Rattle.pale_modes.specs.Texts.{most_bytes}
+use Rattle.pale_status.specs.declared.status.Status.TheVariants.{Good, Bad, Text}
+use Rattle.pale_status.specs.Report.{too_long_line}
+use Rattle.pale_status.specs.Texts.{most_bytes}
 use Rattle.program_promises.specs.Completeness.{IsWithinPeaks}
 use Rattle.pale_top.specs.Output.{CallOutput, IsAnswer, given}
 use Rattle.pale_top.proofs.CallLemmas.{all_read, front_read, line_answers, line_begins, line_status, long_text, some_text}

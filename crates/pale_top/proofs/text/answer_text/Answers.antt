@@ -8,10 +8,10 @@ use Rattle.pale_modes.specs.Deciding.{Decides}
 use Rattle.pale_modes.specs.Replaying.{Replays}
 use Rattle.pale_modes.specs.Running.{Runs}
 use Rattle.pale_modes.specs.Tracing.{Traces}
-use Rattle.pale_modes.proofs.WrittenLemmas.{begun-weaker, whole-weaker}
-use Rattle.pale_modes.proofs.WrittenLemmas.{said_begun, said_whole}
-use Rattle.pale_modes.specs.Report.{too_long_line}
-use Rattle.pale_modes.specs.declared.status.Status.TheVariants.{Text}
+use Rattle.pale_status.proofs.WrittenLemmas.{begun-weaker, whole-weaker}
+use Rattle.pale_status.proofs.WrittenLemmas.{said_begun, said_whole}
+use Rattle.pale_status.specs.Report.{too_long_line}
+use Rattle.pale_status.specs.declared.status.Status.TheVariants.{Text}
 use Rattle.pale_top.proofs.CallLemmas.{too_long_output}
 use Rattle.pale_top.proofs.text.answer_text.Goals as goal
 

@@ -1,7 +1,7 @@
 use Rattle.std.proofs.Common.{rules, map}
 use Rattle.std.specs.String.{string_bytes}
-use Rattle.pale_modes.specs.declared.status.Status.TheVariants.{Words}
-use Rattle.pale_modes.proofs.WrittenLemmas.{begun-weaker, whole-weaker, said_begun, said_whole}
+use Rattle.pale_status.specs.declared.status.Status.TheVariants.{Words}
+use Rattle.pale_status.proofs.WrittenLemmas.{begun-weaker, whole-weaker, said_begun, said_whole}
 use Rattle.pale_top.specs.Output.{CallOutput, Output, given, refused, usage_line}
 use Rattle.pale_top.proofs.text.answer_words.Goals as goal
 

@@ -1,6 +1,6 @@
 use Rattle.pale_judging.specs.Generating.{Gens}
 use Rattle.pale_top.specs.Output.{Output, generated}
-use Rattle.pale_modes.proofs.WrittenLemmas.{begun-weaker, whole-weaker}
+use Rattle.pale_status.proofs.WrittenLemmas.{begun-weaker, whole-weaker}
 use Rattle.pale_top.proofs.text.obey.Goals as goal
 
 pub returns-in-Gen-clause-ok : goal.returns-in-Gen-clause-ok

@@ -10,10 +10,10 @@ use Rattle.pale_io.specs.declared.stops.WriteStop.{WriteStop}
 use Rattle.pale_text.specs.declared.refusal.Refusal.{Refusal}
 use Rattle.pale_text.specs.declared.refusal.TextStop.{TextStop}
 use Rattle.pale_text.specs.declared.refusal.TextStop.TheVariants.{Refused}
-use Rattle.pale_modes.specs.declared.status.Status.{Status}
-use Rattle.pale_modes.specs.declared.status.Status.TheVariants.{Text}
-use Rattle.pale_modes.specs.Report.{Refuses, refused, refused_line}
-use Rattle.pale_modes.specs.Written.{Wrote, WroteAtMost}
+use Rattle.pale_status.specs.declared.status.Status.{Status}
+use Rattle.pale_status.specs.declared.status.Status.TheVariants.{Text}
+use Rattle.pale_status.specs.Report.{Refuses, refused, refused_line}
+use Rattle.pale_status.specs.Written.{Wrote, WroteAtMost}
 
 pub on_err : {T E P : Type 0} (r : Result T E) → P → OnErr r P
 on_err (Ok x) p = tt

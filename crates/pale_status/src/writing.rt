@@ -2,9 +2,9 @@
 ghost use Rattle.std.specs.Prelude.{◌≡◌, ◌≤◌, IfOk, OnErr, IsErrOf};
 ghost use Rattle.pale_io.specs.Faults.{Rose};
 ghost use Rattle.pale_io.specs.Whole.{WritesAll, WritesFront};
-ghost use Rattle.pale_modes.specs.Written.{EndsBy};
+ghost use Rattle.pale_status.specs.Written.{EndsBy};
 
-use crate::Status;
+use crate::status::Status;
 use pale_io::{Sink, WriteStop, write_all};
 
 /// Writes all that is left of an answer, which has this status.

@@ -5,8 +5,8 @@ use Rattle.pale_text.specs.declared.refusal.Refusal.{Refusal}
 use Rattle.pale_text.specs.declared.refusal.TextStop.{TextStop}
 use Rattle.pale_text.specs.declared.refusal.TextStop.TheVariants as stop
 use Rattle.pale_text.specs.Refusals.{word_of}
-use Rattle.pale_modes.specs.declared.status.Status.{Status}
-use Rattle.pale_modes.specs.declared.status.Status.TheVariants.{Text}
+use Rattle.pale_status.specs.declared.status.Status.{Status}
+use Rattle.pale_status.specs.declared.status.Status.TheVariants.{Text}
 
 -- the line for a text with too many bytes
 abbrev pub too_long_line : List ℕ

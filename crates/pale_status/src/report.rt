@@ -1,10 +1,10 @@
 //! The line of a refused text, as bytes.
 ghost use Rattle.std.specs.Prelude.{◌≡◌, ◌≤◌, IfOk, OnErr, IsErrOf};
 ghost use Rattle.pale_io.specs.Faults.{Rose};
-ghost use Rattle.pale_modes.specs.Report.{Refuses, refused_line};
-ghost use Rattle.pale_modes.specs.Written.{Wrote, WroteAtMost};
+ghost use Rattle.pale_status.specs.Report.{Refuses, refused_line};
+ghost use Rattle.pale_status.specs.Written.{Wrote, WroteAtMost};
 
-use crate::Status;
+use crate::status::Status;
 use crate::writing::say;
 use pale_io::{Sink, WriteStop};
 use pale_text::{Refusal, TextStop};

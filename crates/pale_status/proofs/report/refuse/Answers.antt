@@ -1,8 +1,8 @@
 use Rattle.std.proofs.Common.{◌∙◌, ℕ, List, subst, sym}
-use Rattle.pale_modes.specs.declared.status.Status.TheVariants.{Text}
-use Rattle.pale_modes.specs.Report.{Refuses, refused}
-use Rattle.pale_modes.proofs.WrittenLemmas.{said_begun, said_whole}
-use Rattle.pale_modes.proofs.report.refuse.Goals as goal
+use Rattle.pale_status.specs.declared.status.Status.TheVariants.{Text}
+use Rattle.pale_status.specs.Report.{Refuses, refused}
+use Rattle.pale_status.proofs.WrittenLemmas.{said_begun, said_whole}
+use Rattle.pale_status.proofs.report.refuse.Goals as goal
 
 pub returns-in_ok-line-in-Refused-clause-ok : goal.returns-in_ok-line-in-Refused-clause-ok
 returns-in_ok-line-in-Refused-clause-ok g c =

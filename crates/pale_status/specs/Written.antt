@@ -3,8 +3,8 @@ use Rattle.std.specs.Prelude.{◌≡◌, ◌⊎◌, ℕ, List, Option, Result, O
 use Rattle.pale_io.specs.declared.stops.WriteStop.{WriteStop}
 use Rattle.pale_io.specs.declared.stops.WriteStop.TheVariants.{Failed, NoMemory}
 use Rattle.pale_io.specs.Whole.{WritesAll, WritesFront}
-use Rattle.pale_modes.specs.declared.status.Status.{Status}
-use Rattle.pale_modes.specs.declared.status.Status.TheVariants.{Memory, WriteFault}
+use Rattle.pale_status.specs.declared.status.Status.{Status}
+use Rattle.pale_status.specs.declared.status.Status.TheVariants.{Memory, WriteFault}
 
 -- the status of a call after this outcome at the sink
 abbrev pub EndsBy : Result Status WriteStop → Status → Type 0

@@ -23,7 +23,7 @@ pub enum Status {
 
 impl Status {
     ghost use Rattle.std.specs.Prelude.{◌≡◌};
-    ghost use Rattle.pale_modes.specs.Statuses.{number_of};
+    ghost use Rattle.pale_status.specs.Statuses.{number_of};
 
     /// The number of the status, from 0 to 7. Takes no memory.
     pub fn number(&self) -> u8
