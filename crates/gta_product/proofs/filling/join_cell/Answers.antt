@@ -47,26 +47,30 @@ returns-clause-numbers c = numbers-still c.args.numbers.now c.join.new.rule c.re
 
 pub returns-in_err-leaf-clause-joins : goal.returns-in_err-leaf-clause-joins
 returns-in_err-leaf-clause-joins c =
-    Joins-leaves c.args.a.now c.args.b.now c.args.space c.args.left c.args.right c.args.shelf.now c.root_in-first.result c.root_in-second.result
-    c.root_in-first.ensures.value c.root_in-second.ensures.value c.args.numbers.now c.number_leaves.new.numbers c.requires.numbers
-    c.number_leaves.ensures.numbers c.in-Some.one c.in-Some-state.two c.in-Some.ensures.leaf c.in-Some-state.ensures.leaf c.number_leaves.ensures.grows c.requires.tables.is_shelf
+    Joins-leaves c.args.a.now c.args.b.now c.args.space c.args.left c.args.right c.args.shelf.now c.root_in-first.result
+    c.root_in-second.result c.root_in-first.ensures.value c.root_in-second.ensures.value c.args.numbers.now c.number_leaves.new.numbers c.requires.numbers
+    c.number_leaves.ensures.numbers c.in-Some.one c.in-Some-state.two c.in-Some.ensures.leaf c.in-Some-state.ensures.leaf
+    c.number_leaves.ensures.grows c.requires.tables.is_shelf
 
 pub returns-in-Some-state-clause-joins : goal.returns-in-Some-state-clause-joins
 returns-in-Some-state-clause-joins c =
-    Joins-leaves c.args.a.now c.args.b.now c.args.space c.args.left c.args.right c.args.shelf.now c.root_in-first.result c.root_in-second.result
-    c.root_in-first.ensures.value c.root_in-second.ensures.value c.args.numbers.now c.number_leaves.new.numbers c.requires.numbers
-    c.number_leaves.ensures.numbers c.in-Some.one c.in-Some-state.two c.in-Some.ensures.leaf c.in-Some-state.ensures.leaf c.number_leaves.ensures.grows c.requires.tables.is_shelf
+    Joins-leaves c.args.a.now c.args.b.now c.args.space c.args.left c.args.right c.args.shelf.now c.root_in-first.result
+    c.root_in-second.result c.root_in-first.ensures.value c.root_in-second.ensures.value c.args.numbers.now c.number_leaves.new.numbers c.requires.numbers
+    c.number_leaves.ensures.numbers c.in-Some.one c.in-Some-state.two c.in-Some.ensures.leaf c.in-Some-state.ensures.leaf
+    c.number_leaves.ensures.grows c.requires.tables.is_shelf
 
 pub returns-in-Some-state-clause-cell : goal.returns-in-Some-state-clause-cell
 returns-in-Some-state-clause-cell c =
-    IsCell-leaves c.args.a.now c.args.b.now c.args.space c.args.left c.args.right c.args.shelf.now c.root_in-first.result c.root_in-second.result
-    c.root_in-first.ensures.value c.root_in-second.ensures.value c.args.numbers.now c.number_leaves.new.numbers c.requires.numbers
-    c.number_leaves.ensures.numbers c.in-Some.one c.in-Some-state.two c.in-Some.ensures.leaf c.in-Some-state.ensures.leaf c.number_leaves.ensures.grows
+    IsCell-leaves c.args.a.now c.args.b.now c.args.space c.args.left c.args.right c.args.shelf.now c.root_in-first.result
+    c.root_in-second.result c.root_in-first.ensures.value c.root_in-second.ensures.value c.args.numbers.now c.number_leaves.new.numbers c.requires.numbers
+    c.number_leaves.ensures.numbers c.in-Some.one c.in-Some-state.two c.in-Some.ensures.leaf c.in-Some-state.ensures.leaf
+    c.number_leaves.ensures.grows
     c.in_ok-leaf.leaf c.in_ok-leaf.ensures.leaf
 
 pub returns-in-Some-state-clause-fits : goal.returns-in-Some-state-clause-fits
 returns-in-Some-state-clause-fits c =
-    Fits-leaves c.args.a.now c.args.b.now c.args.space c.args.left c.args.right c.args.shelf.now c.root_in-first.result c.root_in-second.result
-    c.root_in-first.ensures.value c.root_in-second.ensures.value c.args.numbers.now c.number_leaves.new.numbers c.requires.numbers
-    c.number_leaves.ensures.numbers c.in-Some.one c.in-Some-state.two c.in-Some.ensures.leaf c.in-Some-state.ensures.leaf c.number_leaves.ensures.grows
+    Fits-leaves c.args.a.now c.args.b.now c.args.space c.args.left c.args.right c.args.shelf.now c.root_in-first.result
+    c.root_in-second.result c.root_in-first.ensures.value c.root_in-second.ensures.value c.args.numbers.now c.number_leaves.new.numbers c.requires.numbers
+    c.number_leaves.ensures.numbers c.in-Some.one c.in-Some-state.two c.in-Some.ensures.leaf c.in-Some-state.ensures.leaf
+    c.number_leaves.ensures.grows
     c.args.joiner.now c.requires.fits
