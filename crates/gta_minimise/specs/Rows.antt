@@ -1,22 +1,10 @@
 -- Rows that classes share: a state's row says which functions its pairs have, and states of one kind have one row.
-use Rattle.std.specs.Prelude.{◌≡◌, ℕ, ◌<◌, ◌≤◌, nat_eq, List, [], ◌∷◌, ◌++◌, length, Option, Some, None, slice_index}
-use Rattle.std.specs.declared.hash.FoldHasher.{FoldHasher}
-use Rattle.std.specs.declared.hash.BuildHasherDefault.{BuildHasherDefault}
-use Rattle.std.specs.HashMap.{get, HashMap, Updates}
+use Rattle.std.specs.Prelude.{◌≡◌, ℕ, suc, ◌<◌, ◌≤◌, List, [], ◌∷◌, ◌++◌, length, slice_index, slice_set}
 
--- the rows by the kinds that have them
-abbrev pub Rows : Type 0
-Rows = HashMap ℕ ℕ (BuildHasherDefault FoldHasher)
-
--- the row of a kind
-abbrev pub row_for : Rows → ℕ → Option ℕ
-row_for rows kind = get nat_eq rows kind
-
--- the kind has a row, or one is made for the state
-pub data IsRowStep (kind state : ℕ) (rows : Rows) (states : List ℕ) : Rows → List ℕ → ℕ → Type 0 where
-  known : (row : ℕ) → row_for rows kind ≡ Some row → IsRowStep kind state rows states rows states row
-  makes : (after : Rows) (row : ℕ) → row_for rows kind ≡ None → row ≡ length states → Updates nat_eq rows after kind (Some row) →
-      IsRowStep kind state rows states after (states ++ state ∷ []) row
+-- the kind has a row, or one is made for the state. A link of a kind is its row plus one, and 0 where it has none
+pub data IsRowStep (kind state : ℕ) (links states : List ℕ) : List ℕ → List ℕ → ℕ → Type 0 where
+  known : (row : ℕ) → slice_index links kind ≡ suc row → IsRowStep kind state links states links states row
+  makes : (row : ℕ) → row ≡ length states → IsRowStep kind state links states (slice_set links kind (suc row)) (states ++ state ∷ []) row
 
 -- a class that has the row, and the state as its representative
 pub record HasRow (representatives numbers states : List ℕ) (row : ℕ) : Type 0 where

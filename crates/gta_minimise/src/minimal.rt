@@ -121,7 +121,7 @@ fn accepting_classes(
 ) -> Result<BoolList, NoMemory>
     ensures { IfOk result (λ flags. flags ≡ map (λ state. slice_index_or accepting.now state false) representatives.now) }
 {
-    let mut flags = Items::new(alloc);
+    let mut flags = Items::from_vec(Vec::with_capacity(alloc, representatives.len())?);
     for state in representatives {
         flags.push(accepting.get(*state as usize).copied().unwrap_or(false))?;
     }

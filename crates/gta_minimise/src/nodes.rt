@@ -64,7 +64,7 @@ fn make_nodes(
     ensures adds { Adds (IsRenamed classes.now nodes.now marks.now) shelf.old shelf.new }
     ensures stuck { result ≡ Err Stop.Limit → IsStuck (IsRenamed classes.now nodes.now marks.now) shelf.new }
 {
-    let mut refs = Vec::new(alloc);
+    let mut refs = Vec::with_capacity(alloc, marks.len())?;
     for index in 0..marks.len() {
         let made = make_node(shelf, nodes, marks, index, classes, &refs)?;
         refs.push(made)?;

@@ -39,12 +39,12 @@ fn roots_of_pairs(
     ensures pairs { IfOk result (λ roots. ArePairs space.now lefts.now rights.now roots.items) }
     ensures inside { IfOk result (λ roots. All (IsIn space.now.listing.nodes) roots.items) }
 {
-    let mut roots = Vec::new(alloc);
     let width = rights.len();
     if width == 0 {
-        return Ok(roots);
+        return Ok(Vec::new(alloc));
     }
     let many = many_pairs(lefts, rights)?;
+    let mut roots = Vec::with_capacity(alloc, many)?;
     for index in 0..many {
         roots.push(space.listed(lefts[index / width], rights[index % width]))?;
     }

@@ -8,12 +8,12 @@ ghost use Rattle.gta_refine.specs.Refined.{part_at, IsRefined};
 ghost use Rattle.gta_minimise.specs.Rows.{IsRowStep, AreSharedRows};
 ghost use Rattle.gta_minimise.specs.Quotient.{IsSharedPart};
 
+use gta_classes::set_at;
 use gta_core::Part;
-use gta_reach::Form;
+use gta_reach::{Form, above};
 use gta_refine::{NumberList, SpaceClasses};
 use plain_data::Items;
 use std::alloc::{AllocError, Global};
-use std::collections::HashMap;
 
 /// The rows of a child's classes. Classes whose representatives are of one kind share a row.
 #[derive(Drop)]
@@ -24,22 +24,25 @@ pub(crate) struct SharedRows {
     pub states: NumberList,
 }
 
-/// The number of a kind's row, a new one for the state where the kind has none.
+/// The number of a kind's row, a new one for the state where the kind has none. For each kind there is a link: its row plus
+/// one, or 0.
 fn row_of(
-    rows: &mut HashMap<u32, u32>,
+    links: &mut Vec<u32>,
     states: &mut NumberList,
     kind: u32,
     state: u32,
 ) -> Result<u32, AllocError>
-    requires { length states.old ≤ 2 ^ 31 }
-    ensures { IfOk result (IsRowStep kind state rows.old states.old rows.new states.new) }
+    requires inside { kind < length links.old.items }
+    requires few { length states.old ≤ 2 ^ 31 }
+    ensures { IfOk result (IsRowStep kind state links.old.items states.old links.new.items states.new) }
 {
-    if let Some(row) = rows.get(&kind) {
-        return Ok(*row);
+    let link = links[kind as usize];
+    if link > 0 {
+        return Ok(link - 1);
     }
     let row = states.len() as u32;
     states.push(state)?;
-    rows.insert(kind, row)?;
+    set_at(links, kind, row + 1);
     Ok(row)
 }
 
@@ -53,12 +56,12 @@ pub(crate) fn share_rows(
     requires few { length representatives.now ≤ 2 ^ 31 }
     ensures { IfOk result (λ shared. AreSharedRows kinds.now representatives.now shared.numbers shared.states) }
 {
-    let mut numbers = Items::new(alloc);
-    let mut states = Items::new(alloc);
-    let mut rows = HashMap::new(alloc);
+    let mut links = vec![in alloc; 0; above(kinds)]?;
+    let mut numbers = Items::from_vec(Vec::with_capacity(alloc, representatives.len())?);
+    let mut states = Items::from_vec(Vec::with_capacity(alloc, representatives.len())?);
     for state in representatives {
         let kind = kinds[*state as usize];
-        let row = row_of(&mut rows, &mut states, kind, *state)?;
+        let row = row_of(&mut links, &mut states, kind, *state)?;
         numbers.push(row)?;
     }
     Ok(SharedRows { numbers, states })
@@ -81,7 +84,7 @@ fn count_up(alloc: Global, many: usize) -> Result<NumberList, AllocError>
     if many > u32::MAX as usize {
         return Err(AllocError);
     }
-    let mut numbers = NumberList::new(alloc);
+    let mut numbers = NumberList::from_vec(Vec::with_capacity(alloc, many)?);
     for number in 0..many as u32 {
         numbers.push(number)?;
     }

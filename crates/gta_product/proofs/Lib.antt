@@ -1,8 +1,10 @@
 pub mod NumbersLemmas
+pub mod IndexedLemmas
 pub mod ClassesLemmas
 pub mod KeyedLemmas
 pub mod ComplementLemmas
 pub mod FillingLemmas
+pub mod LeavesLemmas
 pub mod JoinsLemmas
 pub mod RowsLemmas
 pub mod LimitLemmas

@@ -1,8 +1,7 @@
 -- Numbers for pairs.
-use Rattle.std.proofs.Common.{◌≡◌, ℕ, zero, suc, ◌<◌, ◌≤◌, ◌^◌, Bool, true, false, ◌||◌, if◌then◌else◌, List, [], ◌∷◌, ◌++◌, length, length-append}
+use Rattle.std.proofs.Common.{◌≡◌, ℕ, zero, suc, ◌<◌, ◌≤◌, ◌^◌, Bool, true, false, if◌then◌else◌, List, [], ◌∷◌, ◌++◌, length, length-append}
 use Rattle.std.proofs.Common.{Option, Some, None, option_map, slice_get, slice_index, nat_eq, sym, ◌∙◌, ap, refl, subst, inl, inr, arith, ◌⊎◌}
-use Rattle.std.specs.List.{list_any}
-use Rattle.std.proofs.lemmas.Bool.{cases_Bool, cases_lt, eqb-true, eq-eqb, false≢true}
+use Rattle.std.proofs.lemmas.Bool.{cases_lt, eqb-true, eq-eqb, false≢true}
 use Rattle.std.proofs.lemmas.Option.{slice_get_within, slice_get_past}
 use Rattle.bdd_walk.specs.Laws.{and-left, and-right, and-both}
 use Rattle.bdd_walk.specs.Answers.{KeepsAnswers, AnswersOnly, Completes}
@@ -19,11 +18,11 @@ is_pair-true a b e =
 pub is_pair-refl : (a : ℕ × ℕ) → is_pair a a ≡ true
 is_pair-refl a = and-both (nat_eq a.0 a.0) (nat_eq a.1 a.1) (eq-eqb a.0 a.0 refl) (eq-eqb a.1 a.1 refl)
 
-cases_option : (o : Option ℕ) → (o ≡ None) ⊎ ((n : ℕ) × (o ≡ Some n))
+pub cases_option : (o : Option ℕ) → (o ≡ None) ⊎ ((n : ℕ) × (o ≡ Some n))
 cases_option None = inl refl
 cases_option (Some n) = inr (n, refl)
 
-some-none : (o : Option ℕ) (n : ℕ) → o ≡ Some n → o ≡ None → ⊥
+pub some-none : (o : Option ℕ) (n : ℕ) → o ≡ Some n → o ≡ None → ⊥
 some-none o n some none = let e : ◌≡◌ {A = Option ℕ} None (Some n) = sym none ∙ some in cc
 
 -- what a test and the rest of a list have found
@@ -77,16 +76,6 @@ number_in-only (x ∷ xs) pair q n e none =
       | inr later ↦ number_in-only xs pair q (later.1).0 (later.1).1 parts.1
     ]
 
-or-false : (a b : Bool) → (a || b) ≡ false → (a ≡ false) × (b ≡ false)
-or-false true b e = absurd (false≢true (sym e))
-or-false false b e = (refl, e)
-
-pub number_in-none : (pairs : List (ℕ × ℕ)) (pair : ℕ × ℕ) → list_any (is_pair pair) pairs ≡ false → number_in pairs pair ≡ None
-number_in-none [] pair e = refl
-number_in-none (p ∷ ps) pair e =
-    let parts = or-false (is_pair pair p) (list_any (is_pair pair) ps) e in
-    ap (λ (b : Bool). if b then Some 0 else option_map suc (number_in ps pair)) parts.0 ∙ ap (option_map suc) (number_in-none ps pair parts.1)
-
 pub get-snoc : {X : Type 0} (xs : List X) (x q : X) (k : ℕ) → slice_get (xs ++ x ∷ []) k ≡ Some q →
     (slice_get xs k ≡ Some q) ⊎ ((k ≡ length xs) × (q ≡ x))
 get-snoc {X} [] x q zero e = inr (refl, let f : ◌≡◌ {A = Option X} (Some x) (Some q) = e in cc)
@@ -132,17 +121,6 @@ AreNumbers-comes old pair numbers none room = record {
   ];
   few = let both = length-append old (pair ∷ []) in omega arith;
 }
-
-pub Grows-insert : (old new : List (ℕ × ℕ)) (pair : ℕ × ℕ) →
-    new ≡ (if list_any (is_pair pair) old then old else old ++ pair ∷ []) → Grows old new pair
-Grows-insert old new pair is = elim (cases_Bool (list_any (is_pair pair) old)) [
-  | inl there ↦ stays (is ∙ ap (λ (b : Bool). if b then old else old ++ pair ∷ []) there)
-  | inr absent ↦ comes (number_in-none old pair absent) (is ∙ ap (λ (b : Bool). if b then old else old ++ pair ∷ []) absent)
-]
-
-pub AreNumbers-grows : (old new : List (ℕ × ℕ)) (pair : ℕ × ℕ) → AreNumbers old → length old < 2 ^ 31 → Grows old new pair → AreNumbers new
-AreNumbers-grows old new pair numbers room (stays same) = subst AreNumbers (sym same) numbers
-AreNumbers-grows old new pair numbers room (comes none is) = subst AreNumbers (sym is) (AreNumbers-comes old pair numbers none room)
 
 -- the answers of the rule
 pub numbered-two : (pairs : List (ℕ × ℕ)) (states : List ℕ) (n : ℕ) → numbered pairs states ≡ Some n →

@@ -2,7 +2,7 @@
 use Rattle.std.specs.Prelude.{◌≡◌, ℕ, ◌≤◌, List, [], ◌∷◌, ◌++◌, length, Some, All, Contains, ◌⊎◌, slice_get}
 use Rattle.labels.specs.Labels.{Label, Function}
 use Rattle.bdd_nodes.specs.declared.node_ref.NodeRef.{NodeRef}
-use Rattle.bdd_nodes.specs.Shelf.{Contents, IsShelf, IsValid, state_of, limit_of}
+use Rattle.bdd_nodes.specs.Shelf.{Contents, IsShelf, IsValid, IsLeaf, state_of, limit_of}
 use Rattle.bdd_nodes.specs.Changes.{Keeps, SameTables}
 use Rattle.bdd_walk.specs.Answers.{Completes}
 use Rattle.bdd_walk.specs.Under.{AddsAmong, ExceedsAmong}
@@ -12,6 +12,12 @@ use Rattle.gta_product.specs.Numbers.{number_in, numbered, Extends}
 -- the step of the pair automaton of a space from a row to a column, as the rule is asked it
 abbrev pub asked_at : Automaton (ℕ × ℕ) → ℕ → ℕ × ℕ → ℕ × ℕ → Label → List ℕ
 asked_at AB s l r label = (AB.step s l r label).0 ∷ (AB.step s l r label).1 ∷ []
+
+-- the root is the leaf of the number of the pair
+pub record IsNumbered (pairs : List (ℕ × ℕ)) (one two : ℕ) (root : NodeRef) : Type 0 where
+  pub number : ℕ
+  pub has : number_in pairs (one, two) ≡ Some number
+  pub leaf : IsLeaf root number
 
 -- for each label the root gives the number of the pair that the step gives
 pub record IsCell (AB : Automaton (ℕ × ℕ)) (s : ℕ) (pairs : List (ℕ × ℕ)) (l r : ℕ × ℕ) (shelf : Contents) (root : NodeRef) : Type 0 where

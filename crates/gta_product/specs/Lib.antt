@@ -1,5 +1,6 @@
 pub mod Complement
 pub mod Numbers
+pub mod Indexed
 pub mod Tables
 pub mod Classes
 pub mod Filling

@@ -1,6 +1,6 @@
 //! Classes of pairs of states.
 
-ghost use Rattle.std.specs.Prelude.{◌≡◌, ◌<◌, ◌+◌, ℕ, List, [], length, Some, All, OnOk, slice_get};
+ghost use Rattle.std.specs.Prelude.{◌≡◌, ◌<◌, ◌+◌, ℕ, List, [], length, Some, All, IfOk, OnOk, slice_get};
 ghost use Rattle.gta_product.specs.Numbers.{Extends};
 ghost use Rattle.gta_product.specs.Classes.{Notes, IsKeyed};
 
@@ -21,17 +21,16 @@ pub(crate) struct Classes {
 }
 
 impl Classes {
-    /// Of no pairs. Takes no memory.
-    pub(crate) fn new(alloc: Global) -> Classes
-        ensures keys { result.keys ≡ [] }
-        ensures of { result.of ≡ [] }
-        ensures ones { result.ones ≡ [] }
+    /// Of no pairs, with room for so many and for so many classes.
+    pub(crate) fn new(alloc: Global, pairs: usize, classes: usize) -> Result<Classes, NoMemory>
+        ensures keys { IfOk result (λ made. made.keys ≡ []) }
+        ensures of { IfOk result (λ made. made.of ≡ []) }
+        ensures ones { IfOk result (λ made. made.ones ≡ []) }
     {
-        Classes {
-            keys: Numbering::new(alloc),
-            of: Items::new(alloc),
-            ones: Items::new(alloc),
-        }
+        let keys = Numbering::new(alloc, classes)?;
+        let of = Items::from_vec(Vec::with_capacity(alloc, pairs)?);
+        let ones = Items::from_vec(Vec::with_capacity(alloc, classes)?);
+        Ok(Classes { keys, of, ones })
     }
 
     /// Looks at the pairs that have come, by the classes of their first states and of their second states.

@@ -5,18 +5,29 @@ ghost use Rattle.bdd_walk.specs.Answers.{Completes};
 ghost use Rattle.bdd_walk.specs.Fits.{Fits};
 ghost use Rattle.gta_theory.specs.Constructions.{pairs};
 ghost use Rattle.gta_core.specs.Auto.{root_at, automaton_of};
-ghost use Rattle.gta_product.specs.Numbers.{numbered, AreNumbers};
+ghost use Rattle.gta_product.specs.Numbers.{numbered, AreNumbers, Grows};
 ghost use Rattle.gta_product.specs.Tables.{AreTables};
-ghost use Rattle.gta_product.specs.Filling.{IsCell, Joins, ExceedsCells, IsRow, AreRows};
+ghost use Rattle.gta_product.specs.Filling.{IsNumbered, IsCell, Joins, ExceedsCells, IsRow, AreRows};
 
 use crate::numbering::Numbering;
 use crate::tables::{Tables, root_in};
 use bdd_nodes::{NodeRef, RefList, Shelf};
 use bdd_walk::{Joiner, Stop};
 use gta_core::Auto;
-use std::alloc::Global;
+use std::alloc::{AllocError, Global};
 
-/// The root for a pair of states of each child: a join of the roots that the two automata have.
+/// The root for two leaves: the leaf of the number of their states.
+fn number_leaves(numbers: &mut Numbering, one: u32, two: u32) -> Result<NodeRef, AllocError>
+    ensures grows { Grows numbers.old numbers.new (one, two) }
+    ensures numbers { AreNumbers numbers.new }
+    ensures leaf { IfOk result (IsNumbered numbers.new one two) }
+{
+    let number = numbers.number((one, two))?;
+    Ok(Shelf::leaf(number))
+}
+
+/// The root for a pair of states of each child: a join of the roots that the two automata have. Of two leaves no result is
+/// kept.
 #[allow(clippy::too_many_arguments)]
 pub(crate) fn join_cell(
     alloc: Global,
@@ -45,6 +56,12 @@ pub(crate) fn join_cell(
 {
     let first = root_in(a, tables.first.as_slice(), shelf, space, left.0, right.0);
     let second = root_in(b, tables.second.as_slice(), shelf, space, left.1, right.1);
+    if let Some(one) = first.state() {
+        if let Some(two) = second.state() {
+            let leaf = number_leaves(numbers, one, two)?;
+            return Ok(leaf);
+        }
+    }
     let made = joiner.join(alloc, shelf, &[first, second], None, numbers)?;
     Ok(made)
 }

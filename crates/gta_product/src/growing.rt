@@ -17,7 +17,7 @@ use crate::numbering::Numbering;
 use crate::tables::Tables;
 use bdd_nodes::{RefList, Shelf};
 use bdd_walk::{Joiner, NoMemory, Stop};
-use gta_core::Auto;
+use gta_core::{Auto, Part};
 use plain_data::Items;
 use std::alloc::Global;
 use ws2s_core::Guide;
@@ -37,26 +37,69 @@ pub(crate) struct Growth {
 }
 
 impl Growth {
-    /// For nothing. Takes no memory.
-    fn new(alloc: Global) -> Growth
-        ensures { IsNew result }
+    /// For nothing, with room for as many as either automaton has.
+    fn new(alloc: Global, first: Sizes, second: Sizes) -> Result<Growth, NoMemory>
+        ensures { IfOk result IsNew }
     {
-        Growth {
-            rows: Classes::new(alloc),
-            columns: Classes::new(alloc),
-            cells: Vec::new(alloc),
-        }
+        let lefts = first.lefts.max(second.lefts);
+        let many_rows = first.rows.max(second.rows);
+        let rows = Classes::new(alloc, lefts, many_rows)?;
+        let rights = first.rights.max(second.rights);
+        let many_columns = first.columns.max(second.columns);
+        let columns = Classes::new(alloc, rights, many_columns)?;
+        let cells = Vec::with_capacity(alloc, many_rows)?;
+        Ok(Growth {
+            rows,
+            columns,
+            cells,
+        })
     }
 }
 
-/// Nothing was looked at in any space.
-pub(crate) fn growths(alloc: Global, g: &Guide) -> Result<Vec<Growth>, NoMemory>
+/// How many child states a space has, and rows and columns.
+#[derive(Clone, Copy, Debug)]
+struct Sizes {
+    lefts: usize,
+    rights: usize,
+    rows: usize,
+    columns: usize,
+}
+
+/// How many rows a part has.
+fn rows_of(part: &Part) -> usize {
+    if part.width == 0 {
+        return 0;
+    }
+    part.cells.len() / part.width as usize
+}
+
+/// The sizes of a space; of an unknown one all are 0.
+fn sizes_in(a: &Auto, space: u32) -> Sizes {
+    match a.parts().get(space as usize) {
+        Some(part) => Sizes {
+            lefts: part.rows.len(),
+            rights: part.columns.len(),
+            rows: rows_of(part),
+            columns: part.width as usize,
+        },
+        None => Sizes {
+            lefts: 0,
+            rights: 0,
+            rows: 0,
+            columns: 0,
+        },
+    }
+}
+
+/// Nothing was looked at in any space. A product has as many pairs as either automaton has states, where all are reached.
+pub(crate) fn growths(alloc: Global, g: &Guide, a: &Auto, b: &Auto) -> Result<Vec<Growth>, NoMemory>
     ensures { IfOk result (λ growths. (AB : Automaton (ℕ × ℕ)) (a b : AutoView) (spaces : List (List (ℕ × ℕ))) (shelf : Contents) →
         AreGrown g.now AB a b spaces shelf growths.items) }
 {
-    let mut growths = Vec::new(alloc);
-    for _space in 0..g.spaces() {
-        growths.push(Growth::new(alloc))?;
+    let mut growths = Vec::with_capacity(alloc, g.spaces() as usize)?;
+    for space in 0..g.spaces() {
+        let growth = Growth::new(alloc, sizes_in(a, space), sizes_in(b, space))?;
+        growths.push(growth)?;
     }
     Ok(growths)
 }
@@ -255,19 +298,30 @@ fn look_at(
         .look(lefts, first.rows.as_slice(), second.rows.as_slice())?;
     let rights = numbers[children.1 as usize].as_slice();
     growth.columns.look(rights, first.columns.as_slice(), second.columns.as_slice())?;
-    add_rows(alloc, growth.rows.ones.len(), &mut growth.cells)?;
+    add_rows(
+        alloc,
+        growth.rows.ones.len(),
+        growth.columns.ones.len(),
+        &mut growth.cells,
+    )?;
     Ok(())
 }
 
-/// Rows without roots, until there are so many rows.
-fn add_rows(alloc: Global, many: usize, cells: &mut Vec<RefList>) -> Result<(), NoMemory>
+/// Rows without roots, with room for so many, until there are so many rows.
+fn add_rows(
+    alloc: Global,
+    many: usize,
+    columns: usize,
+    cells: &mut Vec<RefList>,
+) -> Result<(), NoMemory>
     requires { length cells.old.items ≤ many }
     ensures many { OnOk result (length cells.new.items ≡ many) }
     ensures rows { OnOk result ((i : ℕ) (roots : List NodeRef) → slice_get cells.new.items i ≡ Some roots →
         (slice_get cells.old.items i ≡ Some roots) ⊎ (roots ≡ [])) }
 {
     for _row in cells.len()..many {
-        cells.push(RefList::new(alloc))?;
+        let roots = Vec::with_capacity(alloc, columns)?;
+        cells.push(RefList::from_vec(roots))?;
     }
     Ok(())
 }
@@ -329,7 +383,7 @@ fn join_rows(
 fn counts(alloc: Global, spaces: &Vec<Numbering>) -> Result<Items<u64>, NoMemory>
     ensures { IfOk result (λ counts. counts ≡ map length spaces.now.items) }
 {
-    let mut counts = Items::new(alloc);
+    let mut counts = Items::from_vec(Vec::with_capacity(alloc, spaces.len())?);
     for numbers in spaces {
         counts.push(numbers.len() as u64)?;
     }

@@ -27,6 +27,7 @@ use bdd_walk::{Joiner, NoMemory, Stop};
 use gta_core::{Auto, BoolList, Part};
 use plain_data::Items;
 use std::alloc::{AllocError, Global};
+use std::mem::replace;
 use ws2s_core::Guide;
 
 /// The automaton of pairs of states, which accepts what both accept. Its states are exactly the pairs that are reached.
@@ -104,7 +105,7 @@ fn settle(
 {
     let mut numbers = start(alloc, g, a, b)?;
     let mut joiners = joiners(alloc, g)?;
-    let mut growths = growths(alloc, g)?;
+    let mut growths = growths(alloc, g, a, b)?;
     grow(
         alloc,
         g,
@@ -117,7 +118,7 @@ fn settle(
         &mut growths,
     )?;
     let mut roots = RefList::new(alloc);
-    let parts = parts_of(alloc, g, &numbers, &growths, &mut roots)?;
+    let parts = parts_of(alloc, g, &numbers, &mut growths, &mut roots)?;
     Ok(Settled {
         numbers,
         parts,
@@ -131,9 +132,9 @@ fn start(alloc: Global, g: &Guide, a: &Auto, b: &Auto) -> Result<Vec<Numbering>,
         AreSpaces g.now (pairs (automaton_of shelf a.now) (automaton_of shelf b.now)) spaces.items) }
     ensures guide { IsGuide g.now }
 {
-    let mut spaces = Vec::new(alloc);
+    let mut spaces = Vec::with_capacity(alloc, g.spaces() as usize)?;
     for space in 0..g.spaces() {
-        let mut numbers = Numbering::new(alloc);
+        let mut numbers = Numbering::new(alloc, states(a, space).max(states(b, space)))?;
         numbers.number((initial(a, space), initial(b, space)))?;
         spaces.push(numbers)?;
     }
@@ -150,12 +151,20 @@ fn initial(a: &Auto, space: u32) -> u32
     }
 }
 
+/// How many states a space has; 0 for an unknown one.
+fn states(a: &Auto, space: u32) -> usize {
+    match a.parts().get(space as usize) {
+        Some(part) => part.states as usize,
+        None => 0,
+    }
+}
+
 /// A joiner for each space.
 fn joiners(alloc: Global, g: &Guide) -> Result<Vec<Joiner>, NoMemory>
     ensures { IfOk result (λ joiners. (shelf : Contents) (spaces : List (List (ℕ × ℕ))) → length spaces ≡ length g.now →
         FitAll shelf joiners.items spaces) }
 {
-    let mut joiners = Vec::new(alloc);
+    let mut joiners = Vec::with_capacity(alloc, g.spaces() as usize)?;
     for _space in 0..g.spaces() {
         joiners.push(Joiner::new(alloc))?;
     }
@@ -166,7 +175,7 @@ fn joiners(alloc: Global, g: &Guide) -> Result<Vec<Joiner>, NoMemory>
 fn accepting(alloc: Global, a: &Auto, b: &Auto, pairs: &[(u32, u32)]) -> Result<BoolList, NoMemory>
     ensures { IfOk result (λ flags. flags ≡ map (λ pair. is_accepting a.now pair.0 && is_accepting b.now pair.1) pairs.now) }
 {
-    let mut accepting = BoolList::new(alloc);
+    let mut accepting = BoolList::from_vec(Vec::with_capacity(alloc, pairs.len())?);
     for pair in pairs {
         accepting.push(are_accepting(a, b, *pair))?;
     }
@@ -193,44 +202,51 @@ fn is_accepting_in(a: &Auto, state: u32) -> bool
     }
 }
 
-/// The parts of all spaces, of what each was joined for, and their roots.
+/// The parts of all spaces, of what each was joined for, and their roots. The classes of pairs go into the parts.
 fn parts_of(
     alloc: Global,
     g: &Guide,
     numbers: &Vec<Numbering>,
-    growths: &Vec<Growth>,
+    growths: &mut Vec<Growth>,
     roots: &mut RefList,
 ) -> Result<Items<Part>, NoMemory>
     requires numbers { length numbers.now.items ≡ length g.now }
-    requires growths { length growths.now.items ≡ length g.now }
-    requires few { (s : ℕ) (growth : Growth) → slice_get growths.now.items s ≡ Some growth → length growth.columns.ones ≤ 2 ^ 31 }
+    requires growths { length growths.old.items ≡ length g.now }
+    requires few { (s : ℕ) (growth : Growth) → slice_get growths.old.items s ≡ Some growth → length growth.columns.ones ≤ 2 ^ 31 }
     requires none { roots.old ≡ [] }
     ensures many { IfOk result (λ parts. length parts ≡ length g.now) }
     ensures parts { IfOk result (λ parts. (AB : Automaton (ℕ × ℕ)) (a b : AutoView) (shelf : Contents) →
-        AreDone g.now AB a b numbers.now.items shelf growths.now.items → AreParts g.now AB a b numbers.now.items shelf roots.new parts) }
+        AreDone g.now AB a b numbers.now.items shelf growths.old.items → AreParts g.now AB a b numbers.now.items shelf roots.new parts) }
 {
     let mut parts = Items::new(alloc);
     for space in 0..g.spaces() {
         let at = space as usize;
-        let part = part_of(alloc, g, space, &numbers[at], &growths[at], roots)?;
+        let part = part_of(alloc, g, space, &numbers[at], &mut growths[at], roots)?;
         parts.push(part)?;
     }
     Ok(parts)
 }
 
-/// The part of a space, of what it was joined for; its roots are put behind the others.
+/// The numbers, of which none are left.
+fn take(alloc: Global, numbers: &mut Items<u32>) -> Items<u32>
+    ensures { result ≡ numbers.old }
+{
+    replace(numbers, Items::new(alloc))
+}
+
+/// The part of a space, of what it was joined for; its roots are put behind the others. The classes of pairs go into it.
 fn part_of(
     alloc: Global,
     g: &Guide,
     space: u32,
     numbers: &Numbering,
-    growth: &Growth,
+    growth: &mut Growth,
     roots: &mut RefList,
 ) -> Result<Part, NoMemory>
     requires inside { space < length g.now }
-    requires few { length growth.now.columns.ones ≤ 2 ^ 31 }
-    ensures roots { OnOk result (roots.new ≡ roots.old ++ row_by_row growth.now.cells.items) }
-    ensures part { IfOk result (IsAssembled g.now space numbers.now growth.now roots.old) }
+    requires few { length growth.old.columns.ones ≤ 2 ^ 31 }
+    ensures roots { OnOk result (roots.new ≡ roots.old ++ row_by_row growth.old.cells.items) }
+    ensures part { IfOk result (IsAssembled g.now space numbers.now growth.old roots.old) }
 {
     let children = g.children(space).unwrap_or((0, 0));
     if roots.len() > u32::MAX as usize {
@@ -239,9 +255,9 @@ fn part_of(
     let first = roots.len() as u32;
     add_roots(&growth.cells, roots)?;
     let many = roots.len() - first as usize;
-    let rows = Items::from_slice(alloc, growth.rows.of.as_slice())?;
-    let columns = Items::from_slice(alloc, growth.columns.of.as_slice())?;
     let cells = count_up(alloc, many)?;
+    let rows = take(alloc, &mut growth.rows.of);
+    let columns = take(alloc, &mut growth.columns.of);
     Ok(Part {
         states: numbers.len() as u32,
         initial: 0,
@@ -281,7 +297,7 @@ fn count_up(alloc: Global, many: usize) -> Result<Items<u32>, NoMemory>
     if many > u32::MAX as usize {
         return Err(AllocError);
     }
-    let mut numbers = Items::new(alloc);
+    let mut numbers = Items::from_vec(Vec::with_capacity(alloc, many)?);
     for number in 0..many as u32 {
         numbers.push(number)?;
     }

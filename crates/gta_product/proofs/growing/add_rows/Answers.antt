@@ -11,13 +11,13 @@ loop-row-preserved c =
     let cells = c.loop-row.cells.items in
     let invariant = c.loop-row.invariant in
     let added = ap (λ (rs : List (List NodeRef)). length rs) c.in_ok-push.ensures.items in
-    let long = length-append cells (c.new.result ∷ []) in
+    let long = length-append cells (c.from_vec.result ∷ []) in
     record {
       at = omega (arith, invariant.at, added, long);
       few = omega (arith, invariant.at, added, long, c.loop-row-test.true);
-      rows = λ i roots there. elim (get-snoc cells c.new.result roots i
+      rows = λ i roots there. elim (get-snoc cells c.from_vec.result roots i
           (ap (λ (rs : List (List NodeRef)). slice_get rs i) (sym c.in_ok-push.ensures.items) ∙ there)) [
             | inl before ↦ invariant.rows i roots before
-            | inr last ↦ inr (last.1 ∙ c.new.ensures)
+            | inr last ↦ inr (last.1 ∙ c.from_vec.ensures ∙ c.in_ok-roots.ensures.items)
           ];
     }

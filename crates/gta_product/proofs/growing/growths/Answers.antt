@@ -10,13 +10,13 @@ no-growth growth e = cc
 
 pub loop-space-init : goal.loop-space-init
 loop-space-init c = record {
-  many = ap (λ (gs : List Growth). length gs) c.new-growths.ensures.items;
-  none = λ s growth there. absurd (no-growth growth (ap (λ (gs : List Growth). slice_get gs s) (sym c.new-growths.ensures.items) ∙ there));
+  many = ap (λ (gs : List Growth). length gs) c.in_ok-growths.ensures.items;
+  none = λ s growth there. absurd (no-growth growth (ap (λ (gs : List Growth). slice_get gs s) (sym c.in_ok-growths.ensures.items) ∙ there));
 }
 
 pub loop-space-preserved : goal.loop-space-preserved
 loop-space-preserved c =
-    let more = c.new.result in
+    let more = c.in_ok-growth.growth in
     record {
       many =
           let a = ap (λ (gs : List Growth). length gs) c.in_ok-push.ensures.items in
@@ -26,7 +26,7 @@ loop-space-preserved c =
       none = λ s growth there. elim (get-snoc c.loop-space.growths.items more growth s
           (ap (λ (gs : List Growth). slice_get gs s) (sym c.in_ok-push.ensures.items) ∙ there)) [
             | inl before ↦ c.loop-space.invariant.none s growth before
-            | inr last ↦ subst (λ (g : Growth). IsNew g) (sym last.1) c.new.ensures
+            | inr last ↦ subst (λ (g : Growth). IsNew g) (sym last.1) c.in_ok-growth.ensures
           ];
     }
 

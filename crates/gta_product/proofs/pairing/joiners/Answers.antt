@@ -10,8 +10,8 @@ no-joiner joiner e = cc
 
 pub loop-space-init : goal.loop-space-init
 loop-space-init c = record {
-  many = ap (λ (js : List Joiner). length js) c.new-joiners.ensures.items;
-  each = λ s joiner there. absurd (no-joiner joiner (ap (λ (js : List Joiner). slice_get js s) (sym c.new-joiners.ensures.items) ∙ there));
+  many = ap (λ (js : List Joiner). length js) c.in_ok-joiners.ensures.items;
+  each = λ s joiner there. absurd (no-joiner joiner (ap (λ (js : List Joiner). slice_get js s) (sym c.in_ok-joiners.ensures.items) ∙ there));
 }
 
 pub loop-space-preserved : goal.loop-space-preserved

@@ -20,8 +20,8 @@ returns-clause-part c =
       states = c.len-3.ensures.value;
       initial = refl;
       first = c.len-first.ensures;
-      rows = c.in_ok-rows.ensures ∙ c.as_slice.ensures;
-      columns = c.in_ok-columns.ensures ∙ c.as_slice-2.ensures;
+      rows = c.take-rows.ensures;
+      columns = c.take-columns.ensures;
       width = c.len-4.ensures;
       cells = c.in_ok-cells.ensures ∙ ap (range_with_len 0) many;
     }

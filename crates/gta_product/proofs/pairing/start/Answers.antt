@@ -13,8 +13,8 @@ loop-space-preserved c =
     let e = c.in_ok-number.ensures in
     let old = c.loop-space.spaces.items in
     let new = c.number.new.self in
-    let grows = subst (λ (ps : List (ℕ × ℕ)). Grows ps new (initial_of c.args.a.now s, initial_of c.args.b.now s)) c.new-numbers.ensures
-    (subst (λ (p : ℕ × ℕ). Grows c.new-numbers.result new p)
+    let grows = subst (λ (ps : List (ℕ × ℕ)). Grows ps new (initial_of c.args.a.now s, initial_of c.args.b.now s)) c.in_ok-numbers.ensures
+    (subst (λ (p : ℕ × ℕ). Grows c.in_ok-numbers.numbers new p)
     (ap (λ (n : ℕ). let p : ℕ × ℕ = (n, c.initial-in-loop-space.result) in p) c.initial.ensures
     ∙ ap (λ (n : ℕ). let p : ℕ × ℕ = (initial_of c.args.a.now s, n) in p) c.initial-in-loop-space.ensures) e.grows) in
     record {
