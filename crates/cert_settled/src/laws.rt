@@ -1,0 +1,15 @@
+//! Laws of settled states.
+
+ghost use Rattle.std.specs.Prelude.{ℕ, List};
+ghost use Rattle.gta_theory.specs.Guides.{Spaces};
+ghost use Rattle.gta_theory.specs.Automata.{Automaton};
+ghost use Rattle.cert_text.specs.declared.line.StartLine.{StartLine};
+ghost use Rattle.cert_text.specs.declared.line.SettleLine.{SettleLine};
+ghost use Rattle.cert_theory.specs.Tables.{IsSettledList};
+ghost use Rattle.cert_settled.specs.Settled.{told_states, AreSettling};
+
+/// Lines that are right tell a list of settled states.
+pub fn right_lines_tell_settled_lists()
+    ensures { (g : Spaces) (A : Automaton ℕ) (t : ℕ) (starts : List StartLine) (settles : List SettleLine) →
+        AreSettling g A t starts settles → IsSettledList g A t (told_states starts settles) }
+{}
