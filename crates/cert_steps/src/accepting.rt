@@ -31,6 +31,9 @@ pub fn are_below(numbers: &[u32], end: u32) -> bool
     numbers.iter().all(|number| *number < end)
 }
 
+/// So many states of space 0 are kept apart.
+const MOST_STATES: u32 = 67_108_864;
+
 /// What is wrong with accepting states of a space with so many states.
 fn accepting_fault(states: u32, accepting: &[u32]) -> Option<FaultKind>
     ensures { MatchOption result (AreAccepting states accepting.now) (λ kind. ¬ AreAccepting states accepting.now) }
@@ -56,11 +59,19 @@ fn extend(answers: &mut Items<bool>, count: usize) -> Result<(), AllocError>
 }
 
 /// For each state whether it is listed, up to the last one that is.
+///
+/// # Errors
+///
+/// Want of memory, also where a listed state is past the last one that is kept apart: a line of few bytes could otherwise ask for
+/// gigabytes.
 fn answers_of(alloc: Global, listed: &[u32]) -> Result<Items<bool>, AllocError>
     ensures { IfOk result (λ answers. (q : ℕ) → unwrap_or (slice_get answers q) false ≡ list_any (λ r. r == q) listed.now) }
 {
     let mut answers = Items::new(alloc);
     for state in listed {
+        if *state >= MOST_STATES {
+            return Err(AllocError);
+        }
         extend(&mut answers, *state as usize + 1)?;
         answers.set(*state as usize, true);
     }
