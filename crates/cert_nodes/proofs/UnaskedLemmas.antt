@@ -5,7 +5,6 @@ use Rattle.std.proofs.lemmas.Bool.{cases_Bool, eqb-false}
 use Rattle.labels.specs.Labels.{Label, with_track}
 use Rattle.gta_theory.proofs.ListsLemmas.{Contains-first, Contains-later}
 use Rattle.cert_text.specs.declared.line.Target.{Target}
-use Rattle.cert_text.specs.declared.line.Target.TheVariants as target
 use Rattle.cert_text.specs.declared.line.NodeLine.{NodeLine}
 use Rattle.cert_nodes.specs.declared.spots.Spot.{Spot}
 use Rattle.cert_nodes.specs.declared.spots.Diagrams.{Diagrams}

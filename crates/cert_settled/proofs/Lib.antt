@@ -3,3 +3,4 @@ pub mod StepsLemmas
 pub mod ClosedLemmas
 pub mod LinesLemmas
 pub mod QuantifiedLemmas
+pub mod FaultsLemmas

@@ -11,7 +11,7 @@ mod states;
 mod steps;
 
 pub use closed::is_closed;
-pub use laws::right_lines_tell_settled_lists;
+pub use laws::{lines_have_one_first_fault, right_lines_tell_settled_lists};
 pub use lines::{SettleFault, is_start, settle, settle_all};
 pub use quantified::lead_to_quantified;
 pub use states::{Placed, SettledStates};

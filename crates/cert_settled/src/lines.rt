@@ -45,9 +45,7 @@ impl From<AllocError> for SettleFault {
 pub fn is_start(g: &Guide, a: &Table, place: usize, line: StartLine) -> bool
     ensures { (nodes : Diagrams) → IsTrue result ↔ IsStart g.now (table_automaton nodes a.now) place line }
 {
-    line.space < g.spaces()
-        && line.space as usize == place
-        && line.state == initial(a, line.space)
+    line.space < g.spaces() && line.space as usize == place && line.state == initial(a, line.space)
 }
 
 /// Puts the state that a line settles behind the others. `false` where it settles none, or one that is there.

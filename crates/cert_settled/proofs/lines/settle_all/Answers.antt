@@ -3,7 +3,7 @@ use Rattle.std.proofs.lemmas.Bool.{false≢true}
 use Rattle.cert_theory.specs.Tables.{PlacedState}
 use Rattle.cert_tables.specs.Automata.{table_automaton}
 use Rattle.cert_settled.specs.Settling.{IsClosedUnder}
-use Rattle.cert_settled.specs.Settled.{start_state, settle_state, AreSettles, IsFirstFault, IsSettleFault}
+use Rattle.cert_settled.specs.Settled.{settle_state, AreSettles, IsFirstFault, IsSettleFault}
 use Rattle.cert_settled.proofs.LinesLemmas.{start-fault, settle-fault, handed-on}
 use Rattle.cert_settled.proofs.lines.settle_all.Goals as goal
 
@@ -48,7 +48,7 @@ returns-then-not-branch-clause-fault c =
     let A = table_automaton c.args.nodes.now c.args.a.now in
     let lines = c.args.lines.now in
     let told = c.in_ok-settle_each.ensures.value
-        ∙ ap (λ (list : List PlacedState). list ++ map settle_state lines) c.in_ok-states.ensures.value in (
+    ∙ ap (λ (list : List PlacedState). list ++ map settle_state lines) c.in_ok-states.ensures.value in (
       c.in_ok-states.ensures.right c.args.nodes.now,
       subst (λ (list : List PlacedState). AreSettles g A c.args.track list lines (length lines)) c.in_ok-states.ensures.value
           c.in_ok-settle_each.ensures.right,

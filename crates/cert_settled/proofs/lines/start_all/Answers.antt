@@ -1,10 +1,9 @@
-use Rattle.std.proofs.Common.{◌≡◌, ◌<◌, ◌≤◌, Bool, true, if◌then◌else◌, List, [], ◌∷◌, ◌++◌, length, map, take, Some, slice_get, get_or, inl, inr}
-use Rattle.std.proofs.Common.{refl, ap, sym, ◌∙◌, subst, arith}
+use Rattle.std.proofs.Common.{◌<◌, Bool, if◌then◌else◌, [], ◌∷◌, ◌++◌, length, map, get_or, inl, inr}
+use Rattle.std.proofs.Common.{refl, ap, sym, ◌∙◌, arith}
 use Rattle.std.proofs.lemmas.Bool.{false≢true, cases_lt}
 use Rattle.std.proofs.lemmas.List.{take_all}
 use Rattle.std.proofs.lemmas.Option.{slice_get-get_or}
 use Rattle.cert_text.specs.declared.line.StartLine.{StartLine}
-use Rattle.cert_theory.specs.Tables.{PlacedState}
 use Rattle.cert_tables.specs.Automata.{table_automaton}
 use Rattle.cert_settled.specs.Settled.{start_state}
 use Rattle.cert_settled.proofs.LinesLemmas.{started-none, started-new, started-next}

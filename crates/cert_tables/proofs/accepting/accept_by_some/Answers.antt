@@ -1,4 +1,4 @@
-use Rattle.std.proofs.Common.{◌≡◌, sym, ap, ◌∙◌, subst}
+use Rattle.std.proofs.Common.{◌≡◌, subst}
 use Rattle.cert_text.specs.declared.line.SetLine.{SetLine}
 use Rattle.cert_tables.specs.Accepting.{AcceptsBySome}
 use Rattle.cert_tables.proofs.EveryLemmas.{every-more, every-whole}

@@ -1,5 +1,5 @@
 use Rattle.std.proofs.lemmas.Bool.{leb-true, le-leb}
-use Rattle.std.proofs.Common.{ℕ, ◌≤◌, List, [], ◌∷◌, ◌++◌, true, sym, subst, leb}
+use Rattle.std.proofs.Common.{◌≤◌, List, [], ◌∷◌, ◌++◌, true, sym, subst, leb}
 use Rattle.std.specs.Prelude.{◌↔◌, IsTrue}
 use Rattle.cert_text.specs.declared.line.SetLine.{SetLine}
 use Rattle.cert_tables.specs.Orders.{AreSetsInOrder}
