@@ -7,3 +7,4 @@ pub mod FormsLemmas
 pub mod BoardLemmas
 pub mod EndingLemmas
 pub mod SettlingLemmas
+pub mod ArmsLemmas

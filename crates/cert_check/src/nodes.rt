@@ -1,6 +1,6 @@
 //! The steps on a formula's parts, one after the other.
 
-ghost use Rattle.std.specs.Prelude.{◌≡◌, ◌∷◌, [], ◌++◌, ◌+◌, ◌<◌, ℕ, List, length, not, slice_get, Some, IfOk, OnOk};
+ghost use Rattle.std.specs.Prelude.{◌≡◌, ◌∷◌, [], ◌++◌, ◌+◌, ◌<◌, ℕ, List, length, false, not, slice_get, Some, IfOk, OnOk};
 ghost use Rattle.ws2s_core.specs.declared.node.Node.{Node};
 ghost use Rattle.ws2s_core.specs.Nodes.{Extends, HasPartsBelow};
 ghost use Rattle.cert_text.specs.declared.line.Line.{Line};
