@@ -112,14 +112,16 @@ module _ (g : Spaces) (nodes : List Node) (d : Diagrams) (board : Board) (body r
   -- nothing that is reached accepts
   never-accepts : (is_negated : Bool) (base : Base) (q : ℕ) → IsTrue (if is_negated then base.never_rejects else base.never_accepts) → Shows base q →
       (signed is_negated (table_automaton d base.table)).accepting q ≡ false
-  never-accepts true base q never shows = elim (cases_Bool (accepts_in base.table q)) as (λ _. not (accepts_in base.table q) ≡ false) [
-    | inl yes ↦ ap not yes
-    | inr no ↦ absurd (shows.1 never no)
-  ]
-  never-accepts false base q never shows = elim (cases_Bool (accepts_in base.table q)) as (λ _. accepts_in base.table q ≡ false) [
-    | inl yes ↦ absurd (shows.0 never yes)
-    | inr no ↦ no
-  ]
+  never-accepts true base q never shows = by (accepts_in base.table q) refl
+    where
+      by : (b : Bool) → accepts_in base.table q ≡ b → not b ≡ false
+      by true is = refl
+      by false is = absurd (shows.1 never is)
+  never-accepts false base q never shows = by (accepts_in base.table q) refl
+    where
+      by : (b : Bool) → accepts_in base.table q ≡ b → b ≡ false
+      by true is = absurd (shows.0 never is)
+      by false is = refl
 
   none-accepts : 0 < length nodes → IsEmpty board → (q : ℕ) → IsReachedIn nodes stages (length nodes - 1) q →
       ((stages (length nodes - 1)).automaton).accepting q ≡ false

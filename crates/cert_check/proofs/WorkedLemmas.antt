@@ -122,7 +122,7 @@ class-line child is (suc s) line at = absurd cc
 the-rows : AreRows [] 1 0 1 1 ((the_root ∷ []) ∷ [])
 the-rows = record {
   many = refl;
-  rows = (record { many = refl; roots = (record { in_place = refl; of_left = refl; of_right = refl; there = tt; within = omega arith }, tt) }, tt);
+  each = (record { many = refl; roots = (record { in_place = refl; of_left = refl; of_right = refl; there = tt; within = omega arith }, tt) }, tt);
 }
 
 automaton-placed : AreInPlace plain [] the_automaton
