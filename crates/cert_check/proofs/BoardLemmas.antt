@@ -1,7 +1,6 @@
 -- Boards with one more part.
-use Rattle.std.proofs.Common.{◌≡◌, ◌⊎◌, inl, inr, ℕ, ◌+◌, ◌<◌, false, List, [], ◌∷◌, ◌++◌, length, slice_get, Some, sym, ap, subst, arith, length-append}
+use Rattle.std.proofs.Common.{◌≡◌, inl, inr, ℕ, ◌<◌, false, List, [], ◌∷◌, ◌++◌, length, slice_get, Some, sym, subst, arith, length-append}
 use Rattle.gta_theory.proofs.ListedLemmas.{slice_get-push}
-use Rattle.ws2s_core.specs.Nodes.{Extends}
 use Rattle.cert_check.specs.declared.board.Base.{Base}
 use Rattle.cert_check.specs.declared.board.Part.{Part}
 use Rattle.cert_check.specs.declared.board.Board.{Board}

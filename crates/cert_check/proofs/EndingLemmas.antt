@@ -1,23 +1,18 @@
 -- The whole section.
-use Rattle.std.proofs.Common.{◌≡◌, ◌⊎◌, inl, inr, ℕ, ◌+◌, ◌-◌, ◌<◌, Bool, true, false, not, if◌then◌else◌, List, [], ◌∷◌, ◌++◌, length, take, slice_get}
+use Rattle.std.proofs.Common.{◌≡◌, ℕ, ◌-◌, ◌<◌, Bool, true, false, not, if◌then◌else◌, List, [], ◌∷◌, ◌++◌, length, take, slice_get}
 use Rattle.std.proofs.Common.{Contains, Some, refl, ap, sym, ◌∙◌, subst, arith}
-use Rattle.std.specs.Prelude.{◌↔◌, IsTrue}
-use Rattle.std.proofs.lemmas.Bool.{cases_Bool, false≢true}
+use Rattle.std.specs.Prelude.{IsTrue}
+use Rattle.std.proofs.lemmas.Bool.{false≢true}
 use Rattle.std.proofs.lemmas.List.{take_all}
 use Rattle.std.proofs.lemmas.Option.{slice_get_within}
 use Rattle.gta_theory.specs.Guides.{Spaces}
 use Rattle.ws2s_core.specs.declared.formula.Formula.{Formula}
-use Rattle.ws2s_core.specs.declared.track.Track.{Track}
-use Rattle.ws2s_core.specs.declared.node.FormulaId.{FormulaId}
 use Rattle.ws2s_core.specs.declared.node.Node.{Node}
-use Rattle.ws2s_core.specs.Nodes.{HasPartsBelow}
 use Rattle.ws2s_core.proofs.NodesLemmas.{node-inside}
 use Rattle.cert_text.specs.declared.line.NodeLine.{NodeLine}
 use Rattle.cert_text.specs.declared.line.Line.{Line}
 use Rattle.cert_text.specs.declared.line.Line.TheVariants as line
-use Rattle.cert_theory.specs.Agreeing.{AgreeIn}
-use Rattle.cert_theory.specs.Tables.{NamedPair, NamedSet}
-use Rattle.cert_theory.specs.Sections.{Stage, IsStageOf, atom_states, IsReachedIn, in_atom, in_pairs, in_sets, in_negation, AreStages, IsSection}
+use Rattle.cert_theory.specs.Sections.{Stage, IsStageOf, atom_states, IsReachedIn, in_atom, in_pairs, in_sets, in_negation, AreStages}
 use Rattle.cert_nodes.specs.declared.spots.Diagrams.{Diagrams}
 use Rattle.cert_nodes.specs.Nodes.{AreNodes}
 use Rattle.cert_tables.specs.Automata.{accepts_in, signed, table_automaton}
@@ -25,7 +20,6 @@ use Rattle.cert_steps.specs.Steps.{StepLines}
 use Rattle.cert_check.specs.declared.board.Base.{Base}
 use Rattle.cert_check.specs.declared.board.Part.{Part}
 use Rattle.cert_check.specs.declared.board.Board.{Board}
-use Rattle.cert_check.specs.Reached.{Misses}
 use Rattle.cert_check.specs.Told.{lines_of_steps, nodes_of_steps, Tells, IsInPlace, ShowsNone}
 use Rattle.cert_check.specs.Numbering.{AreNodesOf}
 use Rattle.cert_check.specs.Standing.{stage_at, SaysReached, StandsAt, Stands}

@@ -1,6 +1,6 @@
 -- The steps on atoms, negations, conjunctions and quantified formulas.
-use Rattle.std.proofs.Common.{◌≡◌, ◌⊎◌, inl, inr, ℕ, ◌+◌, ◌<◌, Bool, true, false, not, List, [], ◌∷◌, ◌++◌, length, map, slice_get, Contains, Some}
-use Rattle.std.proofs.Common.{refl, ap, sym, ◌∙◌, subst, arith, append-nil, append_assoc}
+use Rattle.std.proofs.Common.{◌≡◌, ℕ, ◌+◌, ◌<◌, Bool, true, false, not, List, [], ◌∷◌, ◌++◌, length, map, slice_get, Contains, Some}
+use Rattle.std.proofs.Common.{refl, ap, sym, ◌∙◌, subst, append-nil, append_assoc}
 use Rattle.std.specs.Prelude.{◌↔◌, IsTrue}
 use Rattle.gta_theory.specs.Guides.{Spaces}
 use Rattle.gta_theory.specs.Automata.{Automaton}
@@ -11,7 +11,7 @@ use Rattle.std.proofs.lemmas.Option.{slice_get_within}
 use Rattle.ws2s_core.specs.declared.node.FormulaId.{FormulaId}
 use Rattle.ws2s_core.specs.declared.track.Track.{Track}
 use Rattle.ws2s_core.specs.declared.node.Node.{Node}
-use Rattle.ws2s_core.specs.Nodes.{Extends, HasPartsBelow}
+use Rattle.ws2s_core.specs.Nodes.{HasPartsBelow}
 use Rattle.cert_text.specs.declared.line.NodeLine.{NodeLine}
 use Rattle.cert_text.specs.declared.line.PairLine.{PairLine}
 use Rattle.cert_text.specs.declared.line.SetLine.{SetLine}
@@ -21,7 +21,7 @@ use Rattle.cert_text.specs.declared.line.Line.{Line}
 use Rattle.cert_text.specs.declared.line.Line.TheVariants as line
 use Rattle.cert_theory.specs.Agreeing.{AgreeIn}
 use Rattle.cert_theory.specs.Tables.{NamedPair, NamedSet, IsPairTable, IsSetTable}
-use Rattle.cert_theory.specs.Sections.{Stage, IsStageOf, atom_states}
+use Rattle.cert_theory.specs.Sections.{Stage, IsStageOf}
 use Rattle.cert_theory.proofs.AgreeingLemmas.{pairs-agreeing, sets-agreeing}
 use Rattle.cert_nodes.specs.declared.spots.Diagrams.{Diagrams}
 use Rattle.cert_tables.specs.declared.table.Table.{Table}
@@ -29,18 +29,17 @@ use Rattle.cert_tables.specs.Automata.{signed, table_automaton, AreThere}
 use Rattle.cert_tables.specs.PairKeys.{named_pair}
 use Rattle.cert_tables.specs.SetKeys.{named_set}
 use Rattle.cert_parts.specs.Atoms.{atom_automaton}
-use Rattle.cert_steps.specs.Steps.{AutomatonLines, StepLines, automaton_lines, nodes_of_step, told_table, told_automaton}
+use Rattle.cert_steps.specs.Steps.{AutomatonLines, StepLines, automaton_lines, told_automaton}
 use Rattle.cert_steps.specs.Places.{AreInPlace}
 use Rattle.cert_steps.specs.Reading.{ReadsAutomaton}
 use Rattle.cert_check.specs.declared.board.Base.{Base}
 use Rattle.cert_check.specs.declared.board.Part.{Part}
 use Rattle.cert_check.specs.declared.board.Board.{Board}
 use Rattle.cert_check.specs.Reached.{Misses, NoPairSays, NoSetSays}
-use Rattle.cert_check.specs.Reading.{IsBaseOfPairs, IsBaseOfSets, ReadsConjunction, ReadsQuantified}
 use Rattle.cert_check.specs.Told.{lines_of_step, nodes_of_steps, Tells, IsInPlace}
-use Rattle.cert_check.specs.Standing.{IsGrown, IsAtomBase, HasAutomaton, IsConjunctionBase, IsQuantifiedBase, AddsBase, no_stage, stage_at}
+use Rattle.cert_check.specs.Standing.{IsGrown, IsAtomBase, HasAutomaton, IsConjunctionBase, IsQuantifiedBase, AddsBase, stage_at}
 use Rattle.cert_check.specs.Standing.{SaysReached, IsToldThere, StandsAt, Stands}
-use Rattle.cert_check.proofs.GrowingLemmas.{grown-same, automaton-grown, there-grown, agree-same, agree-signed, agree-complement}
+use Rattle.cert_check.proofs.GrowingLemmas.{grown-same, automaton-grown, agree-same, agree-complement}
 use Rattle.cert_check.proofs.StagesLemmas.{below-one, below-first, below-second, stage-is}
 use Rattle.cert_check.proofs.StandingLemmas.{IsLonger, new-at, stands-next}
 use Rattle.cert_check.proofs.SettlingLemmas.{settling-agreeing}

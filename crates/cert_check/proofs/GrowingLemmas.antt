@@ -1,5 +1,5 @@
 -- Tables keep their automata when decision nodes come, of atoms or of the section.
-use Rattle.std.proofs.Common.{◌≡◌, ℕ, ◌<◌, Bool, true, false, not, if◌then◌else◌, List, [], ◌++◌, length, Option, Some, None, unwrap_or, slice_get}
+use Rattle.std.proofs.Common.{◌≡◌, ℕ, Bool, true, false, not, if◌then◌else◌, List, [], Option, Some, None, unwrap_or, slice_get}
 use Rattle.std.proofs.Common.{refl, ap, sym, ◌∙◌, subst}
 use Rattle.labels.specs.Labels.{Label}
 use Rattle.gta_theory.specs.Guides.{Spaces}
@@ -15,7 +15,7 @@ use Rattle.cert_nodes.specs.Nodes.{state_on, functions_of, IsThere}
 use Rattle.cert_tables.specs.declared.table.SpaceTable.{SpaceTable}
 use Rattle.cert_tables.specs.declared.table.Table.{Table}
 use Rattle.cert_tables.specs.Automata.{space_in, row_at, cell_by, class_in, signed, table_automaton, AreThere}
-use Rattle.cert_parts.proofs.DecideLemmas.{state-kept, there-kept, grown-none, grown-more}
+use Rattle.cert_parts.proofs.DecideLemmas.{state-kept, there-kept, grown-none}
 use Rattle.cert_steps.specs.Steps.{AutomatonLines, told_table, told_automaton}
 use Rattle.cert_check.specs.Standing.{IsGrown}
 

@@ -1,9 +1,8 @@
 -- The forms of a formula's distinct parts.
-use Rattle.std.proofs.Common.{◌≡◌, ◌⊎◌, inl, inr, ℕ, zero, suc, ◌+◌, ◌-◌, ◌<◌, ◌≤◌, List, [], ◌∷◌, ◌++◌, length, map, take, slice_get, get_or}
-use Rattle.std.proofs.Common.{Option, option_map, Some, None, Contains, refl, ap, ap₂, sym, ◌∙◌, subst, arith}
-use Rattle.std.specs.Prelude.{◌↔◌}
+use Rattle.std.proofs.Common.{◌≡◌, inl, inr, ℕ, zero, suc, ◌+◌, ◌-◌, ◌<◌, List, [], ◌∷◌, ◌++◌, length, map, take, slice_get}
+use Rattle.std.proofs.Common.{Some, Contains, refl, ap, ap₂, sym, ◌∙◌, subst, arith}
 use Rattle.std.proofs.lemmas.Option.{slice_get_within}
-use Rattle.gta_theory.proofs.ListedLemmas.{slice_get-push, length-meanings}
+use Rattle.gta_theory.proofs.ListedLemmas.{length-meanings}
 use Rattle.gta_theory.proofs.ListsLemmas.{Contains-first, Contains-later, Contains-cases, Contains-none, Contains-mapped}
 use Rattle.ws2s_core.specs.declared.formula.Formula.{Formula, roll-Formula, out-Formula, out-roll-Formula}
 use Rattle.ws2s_core.specs.declared.formula.Formula.TheOpen.{Formula-F}
@@ -12,7 +11,7 @@ use Rattle.ws2s_core.specs.declared.node.FormulaId.{FormulaId}
 use Rattle.ws2s_core.specs.declared.node.Node.{Node}
 use Rattle.ws2s_core.specs.Nodes.{form_of, formula_at, formula_of_node, formulas_of, HasPartsBelow, IsOnceEach}
 use Rattle.ws2s_core.specs.Postfix.{parts_of}
-use Rattle.ws2s_core.specs.Parts.{IsPart, itself, deeper, IsPartAt, ArePartsOf}
+use Rattle.ws2s_core.specs.Parts.{IsPart, itself, deeper, ArePartsOf}
 use Rattle.ws2s_core.proofs.NodesLemmas.{formulas_of-at, formula_at-is, at-formula_at, node-inside}
 use Rattle.std.proofs.lemmas.List.Elements.{All-contains}
 use Rattle.cert_steps.proofs.ListsLemmas.{one-more, each-push}

@@ -1,7 +1,6 @@
 -- Stages and the lines of steps, with one more at their ends.
 use Rattle.std.proofs.Common.{◌≡◌, ℕ, zero, suc, ◌+◌, ◌<◌, ◌≤◌, List, [], ◌∷◌, ◌++◌, length, take, slice_get, Some, All, refl, ap, sym, ◌∙◌, subst, arith}
 use Rattle.std.proofs.Common.{append_assoc, append-nil}
-use Rattle.std.specs.Prelude.{slice_index_or}
 use Rattle.std.proofs.lemmas.List.Elements.{All-head, All-tail}
 use Rattle.gta_theory.specs.Guides.{Spaces}
 use Rattle.gta_theory.specs.Constructions.{complement, Settled}
@@ -14,7 +13,7 @@ use Rattle.cert_theory.specs.Sections.{Stage, IsStageOf}
 use Rattle.cert_settled.specs.Settled.{AreSettling}
 use Rattle.cert_steps.specs.Steps.{StepLines}
 use Rattle.cert_check.specs.Told.{lines_of_step, lines_of_steps, IsInPlace}
-use Rattle.cert_check.specs.Standing.{no_stage, stage_at}
+use Rattle.cert_check.specs.Standing.{stage_at}
 
 -- ---- the numbers of parts
 

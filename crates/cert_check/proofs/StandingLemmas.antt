@@ -1,8 +1,7 @@
 -- One more part is known.
-use Rattle.std.proofs.Common.{◌≡◌, ◌⊎◌, inl, inr, ℕ, zero, suc, ◌+◌, ◌<◌, ◌≤◌, Bool, true, false, not, List, [], ◌∷◌, ◌++◌, length, take, slice_get, Some}
+use Rattle.std.proofs.Common.{◌≡◌, inl, inr, ℕ, zero, suc, ◌+◌, ◌<◌, ◌≤◌, List, [], ◌∷◌, ◌++◌, length, take, slice_get, Some}
 use Rattle.std.proofs.Common.{refl, ap, sym, ◌∙◌, subst, arith}
 use Rattle.std.proofs.lemmas.Bool.{cases_lt}
-use Rattle.std.specs.List.{flat_map}
 use Rattle.gta_theory.specs.Guides.{Spaces}
 use Rattle.gta_theory.specs.Automata.{Automaton}
 use Rattle.gta_theory.proofs.ListedLemmas.{slice_get-front, slice_get-last}
@@ -14,7 +13,7 @@ use Rattle.cert_theory.specs.Agreeing.{AgreeIn}
 use Rattle.cert_theory.specs.Sections.{Stage, IsStageOf}
 use Rattle.cert_nodes.specs.declared.spots.Diagrams.{Diagrams}
 use Rattle.cert_tables.specs.Automata.{signed, table_automaton, AreThere}
-use Rattle.cert_steps.specs.Steps.{StepLines, nodes_of_step, told_table, told_automaton}
+use Rattle.cert_steps.specs.Steps.{StepLines, nodes_of_step, told_table}
 use Rattle.cert_steps.proofs.ListsLemmas.{one-more, flat-push}
 use Rattle.cert_check.specs.declared.board.Base.{Base}
 use Rattle.cert_check.specs.declared.board.Part.{Part}

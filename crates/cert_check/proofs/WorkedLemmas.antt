@@ -1,14 +1,12 @@
 -- On the lines of the worked section.
-use Rattle.std.proofs.Common.{◌≡◌, ℕ, zero, suc, ◌+◌, ◌<◌, ◌≤◌, min, false, inl, inr, List, [], take, unwrap_or}
+use Rattle.std.proofs.Common.{◌≡◌, ℕ, zero, suc, min, false, inl, inr, List, [], take, unwrap_or}
 use Rattle.std.proofs.Common.{◌∷◌, Contains, Option, Some, None, slice_get, refl, sym, ap, ap₂, subst, ◌∙◌, arith}
 use Rattle.labels.specs.Labels.{Label}
 use Rattle.gta_theory.specs.Guides.{left, right}
 use Rattle.gta_theory.proofs.ListsLemmas.{Contains-first, Contains-later, Contains-cases, Contains-none}
-use Rattle.ws2s_core.specs.declared.track.Track.{Track}
 use Rattle.ws2s_core.specs.declared.formula.Formula.{Formula, roll-Formula, out-Formula, out-roll-Formula}
 use Rattle.ws2s_core.specs.declared.formula.Formula.TheOpen.{Formula-F}
 use Rattle.ws2s_core.specs.declared.formula.Formula.TheVariants.{And, Not, Single, rolls-Single, rolls-And, rolls-Not}
-use Rattle.ws2s_core.specs.declared.node.FormulaId.{FormulaId}
 use Rattle.ws2s_core.specs.declared.node.Node.{Node}
 use Rattle.ws2s_core.specs.Examples.{track}
 use Rattle.ws2s_core.specs.Parts.{IsPart, itself, deeper}

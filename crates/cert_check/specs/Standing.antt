@@ -1,5 +1,5 @@
 -- What the checker knows after the steps on the first parts of a formula.
-use Rattle.std.specs.Prelude.{◌≡◌, ◌↔◌, ℕ, ◌<◌, Bool, true, false, not, IsTrue, List, [], ◌∷◌, ◌++◌, length, map, take, slice_get}
+use Rattle.std.specs.Prelude.{◌≡◌, ◌↔◌, ℕ, ◌<◌, Bool, true, false, not, IsTrue, List, [], ◌∷◌, ◌++◌, length, take, slice_get}
 use Rattle.std.specs.Prelude.{slice_index_or, Contains, Some}
 use Rattle.gta_theory.specs.Guides.{Spaces}
 use Rattle.ws2s_core.specs.declared.node.Node.{Node}
