@@ -1,11 +1,8 @@
 -- The automaton that a step's lines tell.
-use Rattle.std.proofs.Common.{◌≡◌, ℕ, ◌<◌, Bool, false, List, [], ◌∷◌, ◌++◌, length, map, slice_get, unwrap_or, refl, ap, sym, ◌∙◌, subst, append_assoc}
+use Rattle.std.proofs.Common.{◌≡◌, ℕ, Bool, false, List, [], ◌∷◌, ◌++◌, map, slice_get, unwrap_or, ap, sym, ◌∙◌, subst, append_assoc}
 use Rattle.std.specs.Prelude.{nat_eq}
 use Rattle.std.specs.List.{flat_map, list_any}
-use Rattle.labels.specs.Labels.{Label}
 use Rattle.gta_theory.specs.Guides.{Spaces}
-use Rattle.gta_theory.specs.Automata.{Automaton}
-use Rattle.cert_text.specs.declared.line.Target.{Target}
 use Rattle.cert_text.specs.declared.line.NodeLine.{NodeLine}
 use Rattle.cert_text.specs.declared.line.Line.{Line}
 use Rattle.cert_text.specs.declared.line.Line.TheVariants as line
@@ -14,8 +11,8 @@ use Rattle.cert_nodes.specs.Nodes.{IsThere}
 use Rattle.cert_tables.specs.declared.table.SpaceTable.{SpaceTable}
 use Rattle.cert_tables.specs.declared.table.Table.{Table}
 use Rattle.cert_tables.specs.Automata.{table_automaton, AreThere}
-use Rattle.cert_steps.specs.Steps.{AutomatonLines, lines_of_rows, nodes_of_rows, automaton_lines, nodes_of_automaton, told_table, told_automaton}
-use Rattle.cert_steps.specs.Places.{states_in, AreAccepting, AreInPlace}
+use Rattle.cert_steps.specs.Steps.{AutomatonLines, lines_of_rows, automaton_lines, told_table}
+use Rattle.cert_steps.specs.Places.{AreAccepting, AreInPlace}
 use Rattle.cert_steps.specs.Reading.{ReadsTables, ReadsAccepting, ReadsAutomaton}
 use Rattle.cert_steps.proofs.SpacesLemmas.{there-spaces}
 

@@ -1,7 +1,6 @@
 -- Roots with their nodes, one after the other.
-use Rattle.std.proofs.Common.{◌≡◌, ℕ, zero, suc, ◌+◌, ◌<◌, ◌≤◌, List, [], ◌∷◌, ◌++◌, length, map, slice_get, Some, refl, ap, sym, ◌∙◌, subst, arith}
+use Rattle.std.proofs.Common.{◌≡◌, ℕ, zero, suc, ◌+◌, List, [], ◌∷◌, ◌++◌, length, map, slice_get, Some, refl, ap, sym, ◌∙◌, subst, arith}
 use Rattle.std.proofs.Common.{append_assoc, append-nil, length-append}
-use Rattle.std.specs.List.{flat_map}
 use Rattle.cert_text.specs.declared.line.Target.{Target}
 use Rattle.cert_text.specs.declared.line.Target.TheVariants as target
 use Rattle.cert_text.specs.declared.line.NodeLine.{NodeLine}
@@ -10,10 +9,10 @@ use Rattle.cert_text.specs.declared.line.Line.{Line}
 use Rattle.cert_text.specs.declared.line.Line.TheVariants as line
 use Rattle.cert_nodes.specs.Nodes.{IsThere}
 use Rattle.cert_steps.specs.declared.roots.RootPlace.{RootPlace}
-use Rattle.cert_steps.specs.Steps.{Rooted, lines_of_root, lines_of_row, nodes_of_row, target_of}
+use Rattle.cert_steps.specs.Steps.{Rooted, lines_of_root, nodes_of_row, target_of}
 use Rattle.cert_steps.specs.Places.{IsRootAt, AreRootsFrom}
 use Rattle.cert_steps.specs.Reading.{ReadsRoot, ReadsRoots}
-use Rattle.cert_steps.proofs.ListsLemmas.{one-more, map-push, flat-push, read-more, read-group, behind-group}
+use Rattle.cert_steps.proofs.ListsLemmas.{one-more, map-push, read-more, read-group, behind-group}
 
 -- the nodes that come new before a root
 pub record HasDrawn (old now : List NodeLine) (lines left : List Line) : Type 0 where

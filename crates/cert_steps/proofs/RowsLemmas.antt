@@ -1,12 +1,12 @@
 -- Rows of roots, one after the other.
-use Rattle.std.proofs.Common.{◌≡◌, ℕ, zero, suc, ◌+◌, ◌<◌, ◌≤◌, List, [], ◌∷◌, ◌++◌, length, map, slice_get, Some, refl, ap, sym, ◌∙◌, subst, arith}
+use Rattle.std.proofs.Common.{◌≡◌, ℕ, zero, suc, ◌+◌, List, [], ◌∷◌, ◌++◌, length, map, slice_get, Some, refl, ap, sym, ◌∙◌, subst, arith}
 use Rattle.std.proofs.Common.{append_assoc, append-nil}
 use Rattle.cert_text.specs.declared.line.Target.{Target}
 use Rattle.cert_text.specs.declared.line.NodeLine.{NodeLine}
 use Rattle.cert_text.specs.declared.line.Line.{Line}
 use Rattle.cert_nodes.specs.Nodes.{IsThere}
 use Rattle.cert_steps.specs.Steps.{Rooted, lines_of_row, nodes_of_row, nodes_of_rows, target_of, targets_of}
-use Rattle.cert_steps.specs.Places.{IsRow, AreRowsFrom, AreRows}
+use Rattle.cert_steps.specs.Places.{IsRow, AreRowsFrom}
 use Rattle.cert_steps.specs.Reading.{ReadsRoots, ReadsRows}
 use Rattle.cert_steps.proofs.ListsLemmas.{one-more, map-push, read-group, behind-group}
 use Rattle.cert_steps.proofs.RootsLemmas.{there-row, there-behind, there-shifted}

@@ -2,7 +2,7 @@
 use Rattle.std.specs.Prelude.{◌≡◌, ℕ, zero, suc, ◌+◌, ◌<◌, ◌≤◌, max, List, [], ◌∷◌, ◌++◌, length, fold, slice_get, slice_index, EachIndex, unwrap_or, Some}
 use Rattle.std.specs.Option.{option_map_or}
 use Rattle.std.specs.List.Sorted.{IsStrictlyIncreasing}
-use Rattle.gta_theory.specs.Guides.{Spaces, IsSpace, left, right}
+use Rattle.gta_theory.specs.Guides.{Spaces, left, right}
 use Rattle.gta_theory.specs.Listed.{meanings}
 use Rattle.cert_text.specs.declared.line.Target.{Target}
 use Rattle.cert_text.specs.declared.line.Target.TheVariants as target

@@ -9,7 +9,7 @@ use Rattle.cert_tables.specs.declared.table.SpaceTable.{SpaceTable}
 use Rattle.cert_steps.specs.declared.roots.RootPlace.{RootPlace}
 use Rattle.cert_steps.specs.Steps.{Rooted, lines_of_root, lines_of_row, lines_of_rows, nodes_of_row, nodes_of_rows, target_of, targets_of}
 use Rattle.cert_steps.specs.Steps.{told_space, told_spaces, AutomatonLines, automaton_lines, nodes_of_automaton, told_table, told_automaton}
-use Rattle.cert_steps.specs.Places.{IsRootAt, AreRootsFrom, IsRow, AreRowsFrom, AreRows, AreSpacesRows, class_count, AreSpaceLines, AreClassLines, states_in}
+use Rattle.cert_steps.specs.Places.{IsRootAt, AreRootsFrom, AreRowsFrom, AreRows, AreSpacesRows, class_count, AreSpaceLines, AreClassLines, states_in}
 use Rattle.cert_steps.specs.Places.{AreAccepting, AreInPlace}
 use Rattle.std.specs.List.{flat_map, list_any}
 use Rattle.gta_theory.specs.Guides.{Spaces, left, right}

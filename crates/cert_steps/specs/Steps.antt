@@ -13,7 +13,6 @@ use Rattle.cert_text.specs.declared.line.SettleLine.{SettleLine}
 use Rattle.cert_text.specs.declared.line.SetLine.{SetLine}
 use Rattle.cert_text.specs.declared.line.Line.{Line}
 use Rattle.cert_text.specs.declared.line.Line.TheVariants as line
-use Rattle.cert_nodes.specs.declared.spots.Diagrams.{Diagrams}
 use Rattle.cert_tables.specs.declared.table.SpaceTable.{SpaceTable}
 use Rattle.cert_tables.specs.declared.table.Table.{Table}
 use Rattle.cert_tables.specs.Automata.{table_automaton}

@@ -1,9 +1,9 @@
-use Rattle.std.proofs.Common.{◌≡◌, ℕ, ◌+◌, ◌++◌, List, map, refl, ap, sym, subst}
+use Rattle.std.proofs.Common.{◌≡◌, ℕ, ◌+◌, ◌++◌, List, map, sym, subst}
 use Rattle.cert_text.specs.declared.line.ClassLine.{ClassLine}
 use Rattle.cert_steps.specs.Places.{IsClassLine, AreClassLines}
 use Rattle.cert_steps.specs.Sides.{side_line, child_of}
 use Rattle.cert_steps.proofs.ListsLemmas.{read-more}
-use Rattle.cert_steps.proofs.ClassesLemmas.{classes-none, classes-push}
+use Rattle.cert_steps.proofs.ClassesLemmas.{classes-push}
 use Rattle.cert_steps.proofs.classes.read_classes.Goals as goal
 
 pub loop-space-preserved : goal.loop-space-preserved

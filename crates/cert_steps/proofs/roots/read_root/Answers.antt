@@ -1,4 +1,4 @@
-use Rattle.std.proofs.Common.{refl, sym, subst, ◌∙◌}
+use Rattle.std.proofs.Common.{refl, ◌∙◌}
 use Rattle.cert_steps.proofs.RootsLemmas.{drawn-none, drawn-more, root-read}
 use Rattle.cert_steps.proofs.roots.read_root.Goals as goal
 

@@ -1,5 +1,4 @@
 use Rattle.std.proofs.Common.{◌+◌, List, map, refl, sym, subst, ◌∙◌}
-use Rattle.cert_text.specs.declared.line.ClassLine.{ClassLine}
 use Rattle.cert_tables.specs.declared.table.SpaceTable.{SpaceTable}
 use Rattle.cert_steps.specs.Reading.{ReadsSpaces}
 use Rattle.cert_steps.proofs.SpacesLemmas.{spaces-none, spaces-push}

@@ -1,6 +1,5 @@
 use Rattle.std.proofs.Common.{◌≡◌, ◌+◌, ◌++◌, List, map, refl, sym, subst}
 use Rattle.cert_text.specs.declared.line.SpaceLine.{SpaceLine}
-use Rattle.cert_text.specs.declared.line.Line.{Line}
 use Rattle.cert_text.specs.declared.line.Line.TheVariants as line
 use Rattle.cert_steps.specs.Places.{AreSpaceLines}
 use Rattle.cert_steps.proofs.ListsLemmas.{read-more}
