@@ -1,2 +1,10 @@
-pub mod NodesLemmas
 pub mod WorkedLemmas
+pub mod NumberingLemmas
+pub mod GrowingLemmas
+pub mod StagesLemmas
+pub mod StandingLemmas
+pub mod FormsLemmas
+pub mod BoardLemmas
+pub mod EndingLemmas
+pub mod SettlingLemmas
+pub mod ArmsLemmas

@@ -1,14 +1,12 @@
 -- On the lines of the worked section.
-use Rattle.std.proofs.Common.{◌≡◌, ℕ, zero, suc, Bool, true, false, cond, inl, inr, List, []}
-use Rattle.std.proofs.Common.{◌∷◌, Contains, Option, Some, None, slice_get, refl, sym, ap, ap₂, subst, ◌∙◌}
-use Rattle.std.specs.Option.{option_map_or}
+use Rattle.std.proofs.Common.{◌≡◌, ℕ, zero, suc, min, false, inl, inr, List, [], take, unwrap_or}
+use Rattle.std.proofs.Common.{◌∷◌, Contains, Option, Some, None, slice_get, refl, sym, ap, ap₂, subst, ◌∙◌, arith}
 use Rattle.labels.specs.Labels.{Label}
+use Rattle.gta_theory.specs.Guides.{left, right}
 use Rattle.gta_theory.proofs.ListsLemmas.{Contains-first, Contains-later, Contains-cases, Contains-none}
-use Rattle.ws2s_core.specs.declared.track.Track.{Track}
 use Rattle.ws2s_core.specs.declared.formula.Formula.{Formula, roll-Formula, out-Formula, out-roll-Formula}
 use Rattle.ws2s_core.specs.declared.formula.Formula.TheOpen.{Formula-F}
 use Rattle.ws2s_core.specs.declared.formula.Formula.TheVariants.{And, Not, Single, rolls-Single, rolls-And, rolls-Not}
-use Rattle.ws2s_core.specs.declared.node.FormulaId.{FormulaId}
 use Rattle.ws2s_core.specs.declared.node.Node.{Node}
 use Rattle.ws2s_core.specs.Examples.{track}
 use Rattle.ws2s_core.specs.Parts.{IsPart, itself, deeper}
@@ -16,82 +14,155 @@ use Rattle.ws2s_core.specs.Postfix.{parts_of}
 use Rattle.ws2s_theory.specs.Worked.{plain}
 use Rattle.cert_text.specs.declared.line.Way.TheVariants as way
 use Rattle.cert_text.specs.declared.line.Target.TheVariants as target
+use Rattle.cert_text.specs.declared.line.SpaceLine.{SpaceLine}
+use Rattle.cert_text.specs.declared.line.ClassLine.{ClassLine}
+use Rattle.cert_text.specs.declared.line.PairLine.{PairLine}
 use Rattle.cert_theory.specs.Worked.{contradiction, contradiction_nodes, contradiction_stages, never}
 use Rattle.cert_theory.proofs.WorkedLemmas.{worked-section}
-use Rattle.cert_check.specs.Nodes.{state_on, functions_of, AreNodes}
-use Rattle.cert_check.specs.Told.{Rooted, StepLines, root_of, class_of, told_automaton, nodes_of_steps, Tells, ShowsNone}
+use Rattle.cert_nodes.specs.Nodes.{state_on, functions_of, AreNodes}
+use Rattle.cert_tables.specs.declared.table.SpaceTable.{SpaceTable}
+use Rattle.cert_tables.specs.Automata.{class_at, cell_by}
+use Rattle.cert_tables.specs.Orders.{IsPairBefore, ArePairsInOrder}
+use Rattle.cert_steps.specs.Steps.{Rooted, AutomatonLines, StepLines, told_space, told_automaton}
+use Rattle.cert_steps.specs.Places.{IsSpaceLine, IsClassLine, AreRows, AreInPlace}
+use Rattle.cert_check.specs.Told.{nodes_of_steps, Tells, IsInPlace, ShowsNone}
 use Rattle.cert_check.specs.Worked.{contradiction_lines}
 
 -- the step of an atom or a negation, which has no lines
+abbrev no_automaton : AutomatonLines
+no_automaton = record { spaces = []; lefts = []; rights = []; roots = []; accepting = [] }
+
 abbrev nothing : StepLines
-nothing = record { spaces = []; lefts = []; rights = []; roots = []; accepting = []; pairs = []; starts = []; settles = []; sets = [] }
+nothing = record { automaton = no_automaton; pairs = []; starts = []; settles = []; sets = [] }
+
+abbrev the_space : SpaceLine
+the_space = record { space = 0; states = 1; initial = 0 }
+
+abbrev the_classes : ClassLine
+the_classes = record { space = 0; classes = 0 ∷ [] }
 
 abbrev the_root : Rooted
 the_root = record { nodes = []; root = record { space = 0; left = 0; right = 0; target = target.State 0 } }
 
-abbrev the_step : StepLines
-the_step = record {
-  spaces = record { space = 0; states = 1; initial = 0 } ∷ [];
-  lefts = record { space = 0; classes = 0 ∷ [] } ∷ [];
-  rights = record { space = 0; classes = 0 ∷ [] } ∷ [];
-  roots = the_root ∷ [];
+abbrev the_automaton : AutomatonLines
+the_automaton = record {
+  spaces = the_space ∷ [];
+  lefts = the_classes ∷ [];
+  rights = the_classes ∷ [];
+  roots = ((the_root ∷ []) ∷ []) ∷ [];
   accepting = [];
-  pairs =
-      record { space = 0; first = 0; second = 0; state = 0 }
-      ∷ record { space = 0; first = 1; second = 1; state = 0 }
-      ∷ record { space = 0; first = 2; second = 2; state = 0 }
-      ∷ [];
-  starts = [];
-  settles = [];
-  sets = [];
 }
+
+abbrev pair_of : ℕ → PairLine
+pair_of q = record { space = 0; first = q; second = q; state = 0 }
+
+abbrev the_step : StepLines
+the_step = record { automaton = the_automaton; pairs = pair_of 0 ∷ pair_of 1 ∷ pair_of 2 ∷ []; starts = []; settles = []; sets = [] }
 
 abbrev the_steps : List StepLines
 the_steps = nothing ∷ nothing ∷ the_step ∷ []
 
--- whatever is asked for, there is the one root or the state 0
-root-by : (t : Bool) → option_map_or (λ (r : Rooted). r.root.target) (cond t (Some the_root) None) (target.State 0) ≡ target.State 0
-root-by true = refl
-root-by false = refl
+-- ---- its automaton
 
-root-is : (s c d : ℕ) → root_of (the_root ∷ []) s c d ≡ target.State 0
-root-is s c d = root-by _
+class-zero : (q : ℕ) → class_at (0 ∷ []) q ≡ 0
+class-zero q = ap (λ (k : ℕ). unwrap_or (slice_get (0 ∷ []) k) 0) (let e : min q 0 ≡ 0 = omega arith in e)
 
-initial-is : (s : ℕ) → 0 ≡ (told_automaton [] the_step).initial s
+initial-is : (s : ℕ) → 0 ≡ (told_automaton [] the_automaton).initial s
 initial-is zero = refl
 initial-is (suc s) = refl
 
-never-told : never ≡ told_automaton [] the_step
+abbrev the_table : SpaceTable
+the_table = told_space the_space the_classes the_classes ((the_root ∷ []) ∷ [])
+
+step-is : (s p q : ℕ) (label : Label) → 0 ≡ (told_automaton [] the_automaton).step s p q label
+step-is zero p q label = sym (ap₂ (λ (c d : ℕ). state_on (functions_of []) (cell_by (Some the_table) c d) label) (class-zero p) (class-zero q))
+step-is (suc s) p q label = refl
+
+never-told : never ≡ told_automaton [] the_automaton
 never-told = λ i. record {
   initial = λ s. initial-is s i;
   step = λ s p q label. step-is s p q label i;
   accepting = λ q. false;
 }
-  where
-    step-is : (s p q : ℕ) (label : Label) → 0 ≡ (told_automaton [] the_step).step s p q label
-    step-is s p q label = ap (λ t. state_on [] t label) (sym (root-is s (class_of the_step.lefts s p) (class_of the_step.rights s q)))
 
 tells : (k : ℕ) (node : Node) (step : StepLines) → slice_get contradiction_nodes k ≡ Some node → slice_get the_steps k ≡ Some step →
-    Tells (functions_of (nodes_of_steps the_steps)) node step (contradiction_stages k)
+    Tells (nodes_of_steps the_steps) node step (contradiction_stages k)
 tells zero node step at of =
     let is : Node.Single (track 0) ≡ node = cc in
-    subst (λ n. Tells (functions_of (nodes_of_steps the_steps)) n step (contradiction_stages 0)) is tt
+    subst (λ n. Tells (nodes_of_steps the_steps) n step (contradiction_stages 0)) is tt
 tells (suc zero) node step at of =
     let is : Node.Not (record { 0 = 0 }) ≡ node = cc in
-    subst (λ n. Tells (functions_of (nodes_of_steps the_steps)) n step (contradiction_stages 1)) is tt
+    subst (λ n. Tells (nodes_of_steps the_steps) n step (contradiction_stages 1)) is tt
 tells (suc (suc zero)) node step at of =
     let is : Node.And (record { 0 = 0 }) (record { 0 = 1 }) ≡ node = cc in
     let same : the_step ≡ step = cc in
-    subst (λ n. Tells (functions_of (nodes_of_steps the_steps)) n step (contradiction_stages 2)) is
-    (subst (λ (l : StepLines). Tells (functions_of (nodes_of_steps the_steps)) (Node.And (record { 0 = 0 }) (record { 0 = 1 })) l (contradiction_stages 2)) same
+    subst (λ n. Tells (nodes_of_steps the_steps) n step (contradiction_stages 2)) is
+    (subst (λ (l : StepLines). Tells (nodes_of_steps the_steps) (Node.And (record { 0 = 0 }) (record { 0 = 1 })) l (contradiction_stages 2)) same
     (never-told, refl))
 tells (suc (suc (suc k))) node step at of = absurd cc
 
-no-quantifier : (k : ℕ) (t : Track) (h : FormulaId) → slice_get contradiction_nodes k ≡ Some (Node.Ex2 t h) → ⊥
-no-quantifier zero t h at = absurd cc
-no-quantifier (suc zero) t h at = absurd cc
-no-quantifier (suc (suc zero)) t h at = absurd cc
-no-quantifier (suc (suc (suc k))) t h at = absurd cc
+-- ---- its lines in their places
+
+space-line : (s : ℕ) (line : SpaceLine) → slice_get (the_space ∷ []) s ≡ Some line → IsSpaceLine s line
+space-line zero line at =
+    let same : the_space ≡ line = cc in
+    subst (IsSpaceLine 0) same (record { in_place = refl; has_initial = omega arith })
+space-line (suc s) line at = absurd cc
+
+class-line : (child : ℕ → ℕ) → child 0 ≡ 0 → (s : ℕ) (line : ClassLine) → slice_get (the_classes ∷ []) s ≡ Some line →
+    IsClassLine (the_space ∷ []) s (child s) line
+class-line child is zero line at =
+    let same : the_classes ≡ line = cc in
+    subst (IsClassLine (the_space ∷ []) 0 (child 0)) same
+    (subst (λ (c : ℕ). IsClassLine (the_space ∷ []) 0 c the_classes) (sym is) (record { in_place = refl; many = refl; counted = (omega arith, tt) }))
+class-line child is (suc s) line at = absurd cc
+
+the-rows : AreRows [] 1 0 1 1 ((the_root ∷ []) ∷ [])
+the-rows = record {
+  many = refl;
+  each = (record { many = refl; roots = (record { in_place = refl; of_left = refl; of_right = refl; there = tt; within = omega arith }, tt) }, tt);
+}
+
+automaton-placed : AreInPlace plain [] the_automaton
+automaton-placed = record {
+  spaces = record { many = refl; each = space-line };
+  lefts = record { many = refl; each = class-line (left plain) refl };
+  rights = record { many = refl; each = class-line (right plain) refl };
+  all_roots = refl;
+  roots = (the-rows, tt);
+  accepting = record { rising = λ k below. absurd (omega (arith, below)); below = λ k below. absurd (omega (arith, below)) };
+}
+
+pairs-ordered : ArePairsInOrder the_step.pairs
+pairs-ordered zero x y at next =
+    let is_x : pair_of 0 ≡ x = cc in
+    let is_y : pair_of 1 ≡ y = cc in
+    subst (IsPairBefore x) is_y (subst (λ (l : PairLine). IsPairBefore l (pair_of 1)) is_x (inr (refl, inl (omega arith))))
+pairs-ordered (suc zero) x y at next =
+    let is_x : pair_of 1 ≡ x = cc in
+    let is_y : pair_of 2 ≡ y = cc in
+    subst (IsPairBefore x) is_y (subst (λ (l : PairLine). IsPairBefore l (pair_of 2)) is_x (inr (refl, inl (omega arith))))
+pairs-ordered (suc (suc zero)) x y at next = absurd (no-fourth y next)
+  where
+    no-fourth : (z : PairLine) → (let o : Option PairLine = None in o) ≡ Some z → ⊥
+    no-fourth z e = absurd cc
+pairs-ordered (suc (suc (suc k))) x y at next = absurd cc
+
+in-place : (k : ℕ) (node : Node) (step : StepLines) → slice_get contradiction_nodes k ≡ Some node → slice_get the_steps k ≡ Some step →
+    IsInPlace plain contradiction_stages (nodes_of_steps (take k the_steps)) node step
+in-place zero node step at of =
+    let is : Node.Single (track 0) ≡ node = cc in
+    subst (λ n. IsInPlace plain contradiction_stages (nodes_of_steps (take 0 the_steps)) n step) is tt
+in-place (suc zero) node step at of =
+    let is : Node.Not (record { 0 = 0 }) ≡ node = cc in
+    subst (λ n. IsInPlace plain contradiction_stages (nodes_of_steps (take 1 the_steps)) n step) is tt
+in-place (suc (suc zero)) node step at of =
+    let is : Node.And (record { 0 = 0 }) (record { 0 = 1 }) ≡ node = cc in
+    let same : the_step ≡ step = cc in
+    subst (λ n. IsInPlace plain contradiction_stages (nodes_of_steps (take 2 the_steps)) n step) is
+    (subst (λ (l : StepLines). IsInPlace plain contradiction_stages (nodes_of_steps (take 2 the_steps)) (Node.And (record { 0 = 0 }) (record { 0 = 1 })) l)
+    same (automaton-placed, pairs-ordered))
+in-place (suc (suc (suc k))) node step at of = absurd cc
 
 no-nodes : AreNodes []
 no-nodes k node at = absurd cc
@@ -239,6 +310,6 @@ worked-lines = record {
   lines_are = refl;
   drawn = no-nodes;
   tells = tells;
-  settled = λ k t h step at of. absurd (no-quantifier k t h at);
+  in_place = in-place;
   is_section = worked-section;
 }

@@ -1,3 +1,8 @@
-pub mod Nodes
 pub mod Told
 pub mod Worked
+pub mod Numbering
+pub mod Reached
+pub mod Boards
+pub mod Reading
+pub mod Standing
+pub mod Ending

@@ -15,7 +15,7 @@ pub enum Way {
 }
 
 /// Where a pair of classes or a side of a node leads to.
-#[derive(Clone, Copy, Debug, PartialEq, Eq)]
+#[derive(Clone, Copy, Debug, PartialEq, Eq, Hash)]
 pub enum Target {
     /// A state: `=Q`.
     State(u32),

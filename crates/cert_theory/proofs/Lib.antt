@@ -1,3 +1,4 @@
+pub mod AgreeingLemmas
 pub mod AtomsLemmas
 pub mod PairsLemmas
 pub mod SectionsLemmas

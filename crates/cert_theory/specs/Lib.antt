@@ -1,3 +1,4 @@
+pub mod Agreeing
 pub mod Atoms
 pub mod Sections
 pub mod Tables

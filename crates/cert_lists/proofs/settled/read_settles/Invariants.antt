@@ -1,0 +1,9 @@
+use Rattle.std.proofs.Common.{length, ◌≡◌, ◌++◌, map}
+use Rattle.cert_text.specs.declared.line.Line.TheVariants as line
+use Rattle.cert_lists.proofs.settled.read_settles.Given as goal
+
+abbrev pub invariant-loop-line : goal.invariant-loop-line
+invariant-loop-line l = l.fn.lines ≡ map line.Settle l.settles ++ l.left
+
+abbrev pub decreases-loop-line : goal.decreases-loop-line
+decreases-loop-line l = length l.left

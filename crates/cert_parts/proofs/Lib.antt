@@ -1,0 +1,3 @@
+pub mod DecideLemmas
+pub mod RowsLemmas
+pub mod TableLemmas

@@ -1,0 +1,4 @@
+pub mod Steps
+pub mod Places
+pub mod Sides
+pub mod Reading

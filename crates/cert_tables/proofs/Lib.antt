@@ -1,0 +1,15 @@
+pub mod TestsLemmas
+pub mod EveryLemmas
+pub mod InsertedLemmas
+pub mod PairKeysLemmas
+pub mod StartsLemmas
+pub mod TriplesLemmas
+pub mod PairsLemmas
+pub mod ConjunctionsLemmas
+pub mod KeptLemmas
+pub mod RisingLemmas
+pub mod SetKeysLemmas
+pub mod ClassesLemmas
+pub mod SetsLemmas
+pub mod AcceptingLemmas
+pub mod OrdersLemmas
