@@ -1,7 +1,5 @@
 -- Pairs and sets of states that are there, with one more at their ends.
-use Rattle.std.proofs.Common.{◌≡◌, ◌⊎◌, inl, inr, List, [], ◌∷◌, ◌++◌, Contains, slice_get, Some, ℕ, sym, subst}
-use Rattle.std.specs.List.Sorted.{IsStrictlyIncreasing}
-use Rattle.std.proofs.lemmas.List.Elements.{Contains-append_left}
+use Rattle.std.proofs.Common.{◌≡◌, inl, inr, List, [], ◌∷◌, ◌++◌, Contains, slice_get, Some, ℕ, sym, subst}
 use Rattle.gta_theory.proofs.ListsLemmas.{Contains-none}
 use Rattle.cert_nodes.proofs.WalksLemmas.{last, push-cases}
 use Rattle.cert_text.specs.declared.line.PairLine.{PairLine}

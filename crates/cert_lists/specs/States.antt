@@ -1,10 +1,8 @@
 -- The states that pairs and sets name.
-use Rattle.std.specs.Prelude.{◌≡◌, ℕ, ◌<◌, List, Contains, EachIndex, slice_index}
+use Rattle.std.specs.Prelude.{ℕ, ◌<◌, List, Contains, EachIndex, slice_index}
 use Rattle.std.specs.Option.{option_map_or}
-use Rattle.std.specs.List.Sorted.{IsStrictlyIncreasing}
 use Rattle.cert_text.specs.declared.line.PairLine.{PairLine}
 use Rattle.cert_text.specs.declared.line.SetLine.{SetLine}
-use Rattle.cert_tables.specs.declared.table.SpaceTable.{SpaceTable}
 use Rattle.cert_tables.specs.declared.table.Table.{Table}
 use Rattle.cert_tables.specs.Automata.{space_in}
 use Rattle.cert_tables.specs.Orders.{ArePairsInOrder, AreSetsInOrder}
