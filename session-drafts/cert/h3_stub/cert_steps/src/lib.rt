@@ -1,0 +1,6 @@
+//! Stub.
+#![tactic(auto)]
+
+mod fault;
+
+pub use fault::FaultKind;
