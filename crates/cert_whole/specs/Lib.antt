@@ -1,0 +1,4 @@
+pub mod Asking
+pub mod Cutting
+pub mod Heads
+pub mod Reading

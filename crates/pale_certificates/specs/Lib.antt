@@ -1,0 +1,5 @@
+pub mod Asking
+pub mod Certifying
+pub mod Finding
+pub mod Reporting
+pub mod Verifying
