@@ -4,7 +4,7 @@ use Rattle.std.specs.Prelude.{codes}
 use Rattle.std.specs.Str.{bytes_eq}
 use Rattle.std.proofs.lemmas.Option.{same_Some}
 use Rattle.pale_words.specs.declared.words.Mode.{Mode}
-use Rattle.pale_words.specs.declared.words.Mode.TheVariants.{Check, Replay, Format, Ws2s, Judge, Meet, Run, Trace, Gen}
+use Rattle.pale_words.specs.declared.words.Mode.TheVariants.{Check, Replay, Format, Ws2s, Judge, Meet, Run, Trace, Certify, Verify, Gen}
 use Rattle.pale_words.specs.declared.words.Settings.{Settings}
 use Rattle.pale_words.specs.Words.{Gives, IsRefused, mode_name}
 
@@ -13,7 +13,8 @@ by_name : List ℕ → Mode
 by_name t = if bytes_eq (codes "check") t then Check else (if bytes_eq (codes "replay") t then Replay else (if bytes_eq (codes "format") t then Format
     else (if bytes_eq (codes "ws2s") t then Ws2s else (if bytes_eq (codes "judge") t then Judge
     else (if bytes_eq (codes "meet") t then Meet else (if bytes_eq (codes "run") t then Run
-    else (if bytes_eq (codes "trace") t then Trace else Gen)))))))
+    else (if bytes_eq (codes "trace") t then Trace else (if bytes_eq (codes "certify") t then Certify
+    else (if bytes_eq (codes "verify") t then Verify else Gen)))))))))
 
 own_name : (mode : Mode) → by_name (mode_name mode) ≡ mode
 unfolding by_name
@@ -25,6 +26,8 @@ own_name Judge = refl
 own_name Meet = refl
 own_name Run = refl
 own_name Trace = refl
+own_name Certify = refl
+own_name Verify = refl
 own_name Gen = refl
 
 same_name : (one other : Mode) → mode_name one ≡ mode_name other → one ≡ other

@@ -1,7 +1,7 @@
 -- Where the command takes the words, its rows have a mode and two numbers.
 use Rattle.std.proofs.Common.{◌≡◌, ◌∙◌, ◌<◌, ◌^◌, ◌||◌, ℕ, Bool, List, [], ◌∷◌, zero, suc, length, cond, ap, refl, sym, subst, arith, Some, is_some}
 use Rattle.std.proofs.Common.{true, false, true≢false, codes, lit<, option_map}
-use Rattle.std.specs.Prelude.{find, pos}
+use Rattle.std.specs.Prelude.{find, map, pos}
 use Rattle.std.specs.List.{list_any, slice_index_or}
 use Rattle.std.specs.Str.{bytes_eq}
 use Rattle.std.specs.Borrow.{Bor}
@@ -21,7 +21,7 @@ use Rattle.clap.specs.declared.parser.matches.ArgMatches.{ArgMatches}
 use Rattle.clap.proofs.CallerLemmas.{default_present, present_has_entry, required_present}
 use Rattle.clap.proofs.WalkLemmas.{first_value-rows, list_any-map, one_text-rows}
 use Rattle.pale_words.specs.declared.words.Mode.{Mode}
-use Rattle.pale_words.specs.declared.words.Mode.TheVariants.{Check, Replay, Format, Ws2s, Judge, Meet, Run, Trace, Gen}
+use Rattle.pale_words.specs.declared.words.Mode.TheVariants.{Check, Replay, Format, Ws2s, Judge, Meet, Run, Trace, Certify, Verify, Gen}
 use Rattle.pale_words.specs.Words.{HasMode, HasNumber, HasValues, IsModeParser, command_with, mode_name, mode_names}
 use Rattle.pale_words.proofs.ArgsLemmas.{globals, id_is, negates, plain, required, rules_of, some_arg, takes, three, wants_default}
 use Rattle.pale_words.proofs.ValueLemmas.{value_held}
@@ -39,29 +39,22 @@ entry_found (x ∷ xs) id has = go has.0 has.1 has.2 (bytes_eq x.0.now id) refl 
     go zero lt is false here rest = absurd (true≢false (sym (is x) ∙ here))
     go (suc i) lt is false here rest = rw here (rest i (omega arith) is)
 
--- a text that is among the names is a mode's
-named_mode : (t : Text) → list_any (λ name. same_text false name t) mode_names ≡ true → (mode : Mode) × (t ≡ mode_name mode)
-named_mode t among =
-    go (bytes_eq (codes "check") t) (bytes_eq (codes "replay") t) (bytes_eq (codes "format") t) (bytes_eq (codes "ws2s") t)
-    (bytes_eq (codes "judge") t) (bytes_eq (codes "meet") t) (bytes_eq (codes "run") t) (bytes_eq (codes "trace") t) (bytes_eq (codes "gen") t)
-    refl refl refl refl refl refl refl refl refl among
+-- all modes, in the order of their names
+abbrev all_modes : List Mode
+all_modes = Check ∷ Replay ∷ Format ∷ Ws2s ∷ Judge ∷ Meet ∷ Run ∷ Trace ∷ Certify ∷ Verify ∷ Gen ∷ []
+
+-- a text that is among the names of modes is that of one
+named_by : (t : Text) (modes : List Mode) → list_any (λ name. same_text false name t) (map mode_name modes) ≡ true → (mode : Mode) × (t ≡ mode_name mode)
+named_by t [] some = absurd (true≢false (sym some))
+named_by t (m ∷ ms) some = by (bytes_eq (mode_name m) t) refl some
   where
-    go : (check replay format ws2s judge meet run trace gen : Bool) → bytes_eq (codes "check") t ≡ check → bytes_eq (codes "replay") t ≡ replay
-        → bytes_eq (codes "format") t ≡ format → bytes_eq (codes "ws2s") t ≡ ws2s → bytes_eq (codes "judge") t ≡ judge
-        → bytes_eq (codes "meet") t ≡ meet → bytes_eq (codes "run") t ≡ run → bytes_eq (codes "trace") t ≡ trace → bytes_eq (codes "gen") t ≡ gen
-        → (check || (replay || (format || (ws2s || (judge || (meet || (run || (trace || (gen || false))))))))) ≡ true → (mode : Mode) × (t ≡ mode_name mode)
-    go true b c d e f g h i same is_b is_c is_d is_e is_f is_g is_h is_i some = (Check, sym ((bytes_eq-Decides (codes "check") t).0 same))
-    go false true c d e f g h i is_a same is_c is_d is_e is_f is_g is_h is_i some = (Replay, sym ((bytes_eq-Decides (codes "replay") t).0 same))
-    go false false true d e f g h i is_a is_b same is_d is_e is_f is_g is_h is_i some = (Format, sym ((bytes_eq-Decides (codes "format") t).0 same))
-    go false false false true e f g h i is_a is_b is_c same is_e is_f is_g is_h is_i some = (Ws2s, sym ((bytes_eq-Decides (codes "ws2s") t).0 same))
-    go false false false false true f g h i is_a is_b is_c is_d same is_f is_g is_h is_i some = (Judge, sym ((bytes_eq-Decides (codes "judge") t).0 same))
-    go false false false false false true g h i is_a is_b is_c is_d is_e same is_g is_h is_i some = (Meet, sym ((bytes_eq-Decides (codes "meet") t).0 same))
-    go false false false false false false true h i is_a is_b is_c is_d is_e is_f same is_h is_i some = (Run, sym ((bytes_eq-Decides (codes "run") t).0 same))
-    go false false false false false false false true i is_a is_b is_c is_d is_e is_f is_g same is_i some =
-        (Trace, sym ((bytes_eq-Decides (codes "trace") t).0 same))
-    go false false false false false false false false true is_a is_b is_c is_d is_e is_f is_g is_h same some =
-        (Gen, sym ((bytes_eq-Decides (codes "gen") t).0 same))
-    go false false false false false false false false false is_a is_b is_c is_d is_e is_f is_g is_h is_i some = absurd (true≢false (sym some))
+    by : (b : Bool) → bytes_eq (mode_name m) t ≡ b → (b || list_any (λ name. same_text false name t) (map mode_name ms)) ≡ true →
+        (mode : Mode) × (t ≡ mode_name mode)
+    by true same found = (m, sym ((bytes_eq-Decides (mode_name m) t).0 same))
+    by false same found = named_by t ms found
+
+named_mode : (t : Text) → list_any (λ name. same_text false name t) mode_names ≡ true → (mode : Mode) × (t ≡ mode_name mode)
+named_mode t among = named_by t all_modes among
 
 accepted_mode : (parser : ValueParser) → IsModeParser parser → (t : Text) → Accepts false parser t → (mode : Mode) × (t ≡ mode_name mode)
 accepted_mode parser is t accepted =

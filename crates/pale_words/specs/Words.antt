@@ -8,7 +8,7 @@ use Rattle.clap.specs.declared.builder.action.ArgAction.TheVariants.{Set}
 use Rattle.clap.specs.declared.builder.value_parser.ValueParser.{ValueParser}
 use Rattle.clap.specs.declared.builder.value_parser.ValueParser.TheVariants.{Names, Signed}
 use Rattle.pale_words.specs.declared.words.Mode.{Mode}
-use Rattle.pale_words.specs.declared.words.Mode.TheVariants.{Check, Replay, Format, Ws2s, Judge, Meet, Run, Trace, Gen}
+use Rattle.pale_words.specs.declared.words.Mode.TheVariants.{Check, Replay, Format, Ws2s, Judge, Meet, Run, Trace, Certify, Verify, Gen}
 use Rattle.pale_words.specs.declared.words.Settings.{Settings}
 
 -- ---- the command
@@ -23,13 +23,15 @@ mode_name Judge = codes "judge"
 mode_name Meet = codes "meet"
 mode_name Run = codes "run"
 mode_name Trace = codes "trace"
+mode_name Certify = codes "certify"
+mode_name Verify = codes "verify"
 mode_name Gen = codes "gen"
 
 -- the names of all modes
 abbrev pub mode_names : List Text
 mode_names =
     mode_name Check ∷ mode_name Replay ∷ mode_name Format ∷ mode_name Ws2s ∷ mode_name Judge ∷ mode_name Meet ∷ mode_name Run ∷ mode_name Trace
-    ∷ mode_name Gen ∷ []
+    ∷ mode_name Certify ∷ mode_name Verify ∷ mode_name Gen ∷ []
 
 -- a value that is lent; where it stands is of no account
 abbrev pub lent : {X : Type 0} → X → Bor X

@@ -27,6 +27,10 @@ pub enum Mode {
     Run,
     /// Shows each step of a store's execution through a triple, or of a procedure's run.
     Trace,
+    /// Writes a certificate of a program: that no store fails that meets a triple.
+    Certify,
+    /// Checks a certificate of a program.
+    Verify,
     /// Judges the generator's program of a seed.
     Gen,
 }
@@ -64,8 +68,9 @@ ghost use Rattle.clap.specs.declared.builder.value_parser.ValueParser.TheVariant
 ghost use Rattle.pale_words.specs.Words.{Gives, HasMode, HasNumber, HasSettings, HasValues, number_of, mode_rule, number_rule, IsRefused, IsModeParser};
 ghost use Rattle.pale_words.specs.Words.{mode_name, command_with};
 
-static MODE_NAMES: [&str; 9] = [
-    "check", "replay", "format", "ws2s", "judge", "meet", "run", "trace", "gen",
+static MODE_NAMES: [&str; 11] = [
+    "check", "replay", "format", "ws2s", "judge", "meet", "run", "trace", "certify", "verify",
+    "gen",
 ];
 
 impl Mode {
@@ -83,6 +88,8 @@ impl Mode {
             "meet" => Some(Mode::Meet),
             "run" => Some(Mode::Run),
             "trace" => Some(Mode::Trace),
+            "certify" => Some(Mode::Certify),
+            "verify" => Some(Mode::Verify),
             "gen" => Some(Mode::Gen),
             _ => None,
         }
