@@ -89,7 +89,7 @@ pub shown : (program : TypedProgram) (triples : List Triple) (a : Asked) (lines 
     All (FitsProgram program) triples → IsCertificate program triples a lines → IsShown program triples a
 shown program triples a lines fits own certificate =
     let functional = every-functional program.types
-        (functional-fields program.types (pointer_fields program.types) certificate.fields fits.types certificate.of_fields) in
+    (functional-fields program.types (pointer_fields program.types) certificate.fields fits.types certificate.of_fields) in
     record {
       functional = functional;
       valid = valid-triples program fits functional (asked_triples triples a) certificate.sites (asked-fit program triples a own) certificate.of_triples;
