@@ -4,8 +4,11 @@ use Rattle.std.proofs.lemmas.List.Elements.{All-nil, All-cons, All-append}
 use Rattle.gta_theory.proofs.AssignmentsLemmas.{Covers-finite}
 use Rattle.gta_theory.specs.Guides.{Spaces, IsGuide}
 use Rattle.ws2s_core.specs.declared.formula.Formula.{Formula}
+use Rattle.ws2s_core.specs.declared.track.Track.{Track}
 use Rattle.ws2s_core.specs.Satisfaction.{Same}
+use Rattle.ws2s_context.specs.Opening.{AreOf, IsOpened}
 use Rattle.ws2s_decide.specs.Deciding.{IsUnsatisfiable}
+use Rattle.ws2s_decide.proofs.WaysLemmas.{TellsOf-same, TellsOf-opened}
 use Rattle.cert_text.specs.declared.line.Way.{Way}
 use Rattle.cert_text.specs.declared.line.Way.TheVariants.{Easier, Whole}
 use Rattle.cert_text.specs.declared.line.Line.{Line}
@@ -110,3 +113,11 @@ pub valid-triple : (types : List TypeEntry) (vars : List VarEntry) (t : Triple) 
     CanBeJudged types vars t → ShowsTriple types vars t lines → IsValid types vars t
 valid-triple types vars t lines table functional can shows =
     valid-from types vars t table functional can (nowhere-below (site_formula types vars t) (length (sites_of types t)) lines shows)
+
+-- ---- easier formulas
+
+-- what is rewritten and opened has a satisfying assignment where the formula has one
+pub tells-rewritten : (weigh : List Track) (f g h made : Formula) → Same f g → ((ts : List ℕ) → AreOf weigh ts → IsOpened ts g h) → h ≡ made →
+    IsUnsatisfiable made → IsUnsatisfiable f
+tells-rewritten weigh f g h made same opened is none =
+    (TellsOf-same weigh f g h same (TellsOf-opened weigh g h opened)).none (subst IsUnsatisfiable (sym is) none)

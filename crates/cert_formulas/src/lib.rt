@@ -6,6 +6,7 @@
 #![tactic(auto)]
 
 mod checking;
+mod context;
 mod fields;
 mod laws;
 mod sites;

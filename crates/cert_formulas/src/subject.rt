@@ -6,7 +6,8 @@ ghost use Rattle.ws2s_core.specs.Satisfaction.{Same};
 ghost use Rattle.ws2s_decide.specs.Deciding.{IsUnsatisfiable};
 ghost use Rattle.field_judge.specs.Known.{FollowsFrom};
 
-use field_judge::first_guide;
+use crate::context::in_its_context;
+use field_judge::{first_guide, weighed};
 use std::alloc::{AllocError, Global};
 use tree_encode::Layout;
 use tree_reached::by_fields;
@@ -34,7 +35,7 @@ fn joined_to(alloc: Global, known: &Formula, formula: Formula) -> Result<Formula
 
 /// What the passes make of a formula of a layout's trees, in which types of many fields are told by field, with what is known of
 /// all that satisfies it in front.
-fn easier_of(
+fn passed_through(
     alloc: Global,
     l: &Layout<'_>,
     formula: &Formula,
@@ -47,6 +48,25 @@ fn easier_of(
     let told = by_fields(alloc, l, formula)?;
     let joined = joined_to(alloc, known, told)?;
     apply(alloc, passes, &joined)
+}
+
+/// The same, rewritten in its context where that can be written out.
+fn easier_of(
+    alloc: Global,
+    l: &Layout<'_>,
+    formula: &Formula,
+    known: &Formula,
+    passes: &PassList,
+) -> Result<Formula, AllocError>
+    requires { FollowsFrom formula.now known.now }
+    ensures { IfOk result (λ easier. IsUnsatisfiable easier → IsUnsatisfiable formula.now) }
+{
+    let passed = passed_through(alloc, l, formula, known, passes)?;
+    let tracks = weighed(alloc, l)?;
+    match in_its_context(alloc, &passed, &tracks)? {
+        Some(easier) => Ok(easier),
+        None => Ok(passed),
+    }
 }
 
 /// The subject of a formula of a layout's trees, by what is known of all that satisfies it.
