@@ -1,6 +1,7 @@
 //! The text of a whole certificate, read line by line and written, and its lines cut into sections.
 //!
-//! `specs/Reading.antt` says which lines a text is read as, `specs/Asking.antt` what the first two say that it is on, and `specs/Heads.antt` which way a section's first line names.
+//! `specs/Reading.antt` says which lines a text is read as, `specs/Asking.antt` what the first two say that it is on,
+//! `specs/Cutting.antt` which of them are the first section, and `specs/Heads.antt` which way a section's first line names.
 #![tactic(auto)]
 
 mod asking;

@@ -1,5 +1,6 @@
 -- On sections that are written one after the other.
-use Rattle.std.proofs.Common.{◌≡◌, ◌+◌, ◌<◌, ℕ, suc, List, [], ◌∷◌, ◌++◌, length, take, get_or, Option, Some, None, ◌⊎◌, inl, inr, refl, sym, ap, ◌∙◌, subst, arith}
+use Rattle.std.proofs.Common.{◌≡◌, ◌+◌, ◌<◌, ℕ, suc, List, [], ◌∷◌, ◌++◌, length, take, get_or}
+use Rattle.std.proofs.Common.{Option, Some, None, ◌⊎◌, inl, inr, refl, sym, ap, ◌∙◌, subst, arith}
 use Rattle.std.proofs.Common.{append_assoc}
 use Rattle.std.proofs.lemmas.List.{append-nil, take_more}
 use Rattle.std.proofs.lemmas.List.Concat.{flat_map-append}
@@ -100,7 +101,8 @@ pub certificate-text : (program : TypedProgram) (triples : List Triple) (a : Ask
     Adds (ShowsTriples program (asked_triples triples a)) mid text → IsCertificateText program triples a text
 certificate-text program triples a start mid text there head fields sites = record {
   lines = head_of a ++ (fields.lines ++ sites.lines);
-  spelled = sites.spelled ∙ ap (λ (bytes : List ℕ). bytes ++ lines_text sites.lines) (fields.spelled ∙ ap (λ (bytes : List ℕ). bytes ++ lines_text fields.lines) head)
+  spelled = sites.spelled ∙ ap (λ (bytes : List ℕ). bytes ++ lines_text sites.lines) fields.spelled
+      ∙ ap (λ (bytes : List ℕ). (bytes ++ lines_text fields.lines) ++ lines_text sites.lines) head
       ∙ append_assoc (lines_text (head_of a)) (lines_text fields.lines) (lines_text sites.lines)
       ∙ ap (λ (bytes : List ℕ). lines_text (head_of a) ++ bytes) (sym (flat_map-append line_text fields.lines sites.lines))
       ∙ sym (flat_map-append line_text (head_of a) (fields.lines ++ sites.lines));
