@@ -27,12 +27,12 @@ MOST_QUESTIONS, MOST_EDITS, MOST_LINES, MOST_COLUMNS = 7, 4, 500, 160
 STANDING_CALLS = {
     "bdd_list": 1,
     "bdd_walk": 4,
+    "gta_answers": 1,
     "gta_atom": 1,
     "gta_core": 3,
     "gta_keep": 3,
     "gta_merge": 1,
     "gta_minimise": 1,
-    "kernel_gallery": 1,
     "ws2s_context": 2,
     "ws2s_decide": 1,
 }

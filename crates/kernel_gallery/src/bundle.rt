@@ -2,14 +2,11 @@
 
 ghost use Rattle.std.specs.Prelude.{◌≤◌};
 
-use crate::built::answer_built;
-use crate::chains::answer_chain;
 use crate::graphs::answer_form;
 use crate::joins::answer_join;
-use crate::lines::{number_of, word_at, write_unknown};
-use crate::steps::answer_literal;
 use anyhow::Result;
 use bdd_walk::Stop;
+use gta_answers::{answer_built, answer_chain, answer_literal, number_of, word_at, write_unknown};
 use pale_io::{Sink, write_all};
 use plain_writer::Writer;
 use std::alloc::Global;
@@ -102,8 +99,7 @@ fn answers(alloc: Global, bundle: &str) -> Result<Vec<u8>, Stop> {
 }
 
 /// Shows each text of a bundle.
-pub(crate) fn show_texts<K: Sink>(alloc: Global, bundle: &str, sink: &mut K) -> Result<()> {
-    let text = answers(alloc, bundle)?;
-    write_all(sink, &text)?;
-    Ok(())
+pub(crate) fn show_texts<K: Sink>(alloc: Global, bundle: &[u8], sink: &mut K) -> Result<()> {
+    let text = answers(alloc, str::from_utf8(bundle)?)?;
+    Ok(write_all(sink, &text)?)
 }

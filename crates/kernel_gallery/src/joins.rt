@@ -6,9 +6,9 @@ ghost use Rattle.bdd_nodes.specs.Shelf.{IsValid, AsksFrom};
 ghost use Rattle.bdd_nodes.specs.Changes.{Keeps};
 ghost use Rattle.bdd_nodes.specs.declared.node_ref.NodeRef.{NodeRef};
 
-use crate::lines::{number_of, write_number};
 use bdd_nodes::{Full, NodeRef, RefList, Shelf};
 use bdd_walk::{LeafRule, StateList, Stop, join, rename, restrict};
+use gta_answers::{number_of, write_number};
 use plain_data::Items;
 use plain_writer::Writer;
 use std::alloc::{AllocError, Global};

@@ -3,8 +3,8 @@
 //!
 //! What stands in front of the first head is a comment. A head is a line `=== NAME OPERATION WORDS`. The text goes from behind
 //! the head up to the newline before the next head, or to the end of the bundle. For each text the head is written, and then
-//! what the operation gives, mostly each line with a colon and an answer. An unknown word is
-//! answered by `unknown`.
+//! what the operation gives, mostly each line with a colon and an answer. An unknown word is answered by `unknown`. What lines on
+//! automata ask for is answered by `gta_answers`, whose modules are named here.
 //!
 //! - `automata GUIDE LIMIT`: each line makes an automaton in a shelf of its own with room for so many nodes (`guides`). The first
 //!   word is a literal, whose minimal automaton is made (`literals`); each further word is a step to the next automaton (`steps`)
@@ -17,20 +17,9 @@
 //!   the number of a large formula, `negations 9`, `zigzag 9` or `doubled 9`, with its size.
 #![tactic(auto)]
 
-mod agreeing;
-mod built;
 mod bundle;
-mod chain;
-mod chains;
 mod graphs;
-mod grid;
-mod guides;
 mod joins;
-mod lines;
-mod literals;
-mod looks;
-mod steps;
-mod trees;
 
 use crate::bundle::show_texts;
 use anyhow::Result;
@@ -41,7 +30,6 @@ const MOST_BYTES: usize = 16_777_216;
 
 fn main(rt: HostRuntime) -> Result<()> {
     let mut source = StdSource::new(rt.stdin());
-    let mut sink = StdSink::new(rt.stdout());
     let bundle = read_all(rt.alloc(), &mut source, MOST_BYTES)?;
-    show_texts(rt.alloc(), str::from_utf8(&bundle)?, &mut sink)
+    show_texts(rt.alloc(), &bundle, &mut StdSink::new(rt.stdout()))
 }

@@ -13,29 +13,28 @@
 //! - `formulas`: the second section is a scene, and the further ones are views. A line that begins with `? ` asks for a formula
 //!   after the events of the view, and one in the scene of each view. Where the scene has positions, it is written where the
 //!   formula holds of them, and else how it is spelled.
+//!
+//! What is written for a bundle is made by `store_answers`.
 #![tactic(auto)]
 
-mod asked;
-mod bundle;
-mod formulas;
-mod layouts;
-mod lines;
-mod places;
-mod programs;
-mod spelling;
-mod stores;
-mod views;
-
-use crate::bundle::show_texts;
-use anyhow::Result;
-use pale_io::{StdSink, StdSource, read_all};
+use anyhow::{Result, bail};
+use pale_io::{Sink, StdSink, StdSource, read_all, write_all};
+use std::alloc::Global;
+use store_answers::answers;
 
 /// The most bytes that a bundle may have.
 const MOST_BYTES: usize = 16_777_216;
 
+/// Shows each text of a bundle.
+fn show_texts<K: Sink>(alloc: Global, bundle: &[u8], sink: &mut K) -> Result<()> {
+    let Ok(text) = answers(alloc, bundle) else {
+        bail!("no text, an unknown word, or want of memory");
+    };
+    Ok(write_all(sink, &text)?)
+}
+
 fn main(rt: HostRuntime) -> Result<()> {
     let mut source = StdSource::new(rt.stdin());
-    let mut sink = StdSink::new(rt.stdout());
     let bundle = read_all(rt.alloc(), &mut source, MOST_BYTES)?;
-    show_texts(rt.alloc(), str::from_utf8(&bundle)?, &mut sink)
+    show_texts(rt.alloc(), &bundle, &mut StdSink::new(rt.stdout()))
 }
