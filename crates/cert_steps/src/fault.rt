@@ -1,5 +1,7 @@
 //! Why lines are read no further.
 
+ghost use Rattle.std.specs.Prelude.{◌≡◌, ◌≢◌, [], drop, length};
+
 use cert_text::Line;
 use std::alloc::AllocError;
 
@@ -43,7 +45,10 @@ impl From<AllocError> for Stop {
 }
 
 /// The first of these lines has another form than is due, or there is none.
-pub fn wrong_form(lines: &[Line]) -> Stop {
+pub fn wrong_form(lines: &[Line]) -> Stop
+    ensures missing { lines.now ≡ [] → result ≡ Stop.Fault 0 FaultKind.Missing }
+    ensures form { lines.now ≢ [] → result ≡ Stop.Fault (length lines.now) FaultKind.Syntax }
+{
     match lines.len() {
         0 => Stop::Fault(0, FaultKind::Missing),
         left => Stop::Fault(left, FaultKind::Syntax),
@@ -51,7 +56,9 @@ pub fn wrong_form(lines: &[Line]) -> Stop {
 }
 
 /// The lines from a place on; none past the last one.
-pub fn lines_from(lines: &[Line], place: usize) -> &[Line] {
+pub fn lines_from(lines: &[Line], place: usize) -> &[Line]
+    ensures { result.now ≡ drop place lines.now }
+{
     let (_, rest) = lines.split_at(place.min(lines.len()));
     rest
 }
