@@ -29,10 +29,10 @@ STANDING_CALLS = {
     "bdd_walk": 4,
     "gta_atom": 1,
     "gta_core": 3,
+    "gta_gallery": 1,
     "gta_keep": 3,
     "gta_merge": 1,
     "gta_minimise": 1,
-    "kernel_gallery": 1,
     "ws2s_context": 2,
     "ws2s_decide": 1,
 }

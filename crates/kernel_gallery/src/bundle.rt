@@ -2,12 +2,9 @@
 
 ghost use Rattle.std.specs.Prelude.{◌≤◌};
 
-use crate::built::answer_built;
-use crate::chains::answer_chain;
 use crate::graphs::answer_form;
 use crate::joins::answer_join;
 use crate::lines::{number_of, word_at, write_unknown};
-use crate::steps::answer_literal;
 use anyhow::Result;
 use bdd_walk::Stop;
 use pale_io::{Sink, write_all};
@@ -44,12 +41,8 @@ fn answer(
     interner: &mut Interner,
     out: &mut Writer,
 ) -> Result<(), Stop> {
-    let first = word_at(head, 2);
     match word_at(head, 1) {
-        "automata" => answer_literal(alloc, first, limit_of(word_at(head, 3)), line, out),
-        "joins" => answer_join(alloc, limit_of(first), line, out),
-        "built" => answer_built(alloc, line, out),
-        "chains" => answer_chain(alloc, line, out),
+        "joins" => answer_join(alloc, limit_of(word_at(head, 2)), line, out),
         "graph" => Ok(answer_form(alloc, interner, line, out)?),
         _ => {
             write_unknown(out);
@@ -102,8 +95,7 @@ fn answers(alloc: Global, bundle: &str) -> Result<Vec<u8>, Stop> {
 }
 
 /// Shows each text of a bundle.
-pub(crate) fn show_texts<K: Sink>(alloc: Global, bundle: &str, sink: &mut K) -> Result<()> {
-    let text = answers(alloc, bundle)?;
-    write_all(sink, &text)?;
-    Ok(())
+pub(crate) fn show_texts<K: Sink>(alloc: Global, bundle: &[u8], sink: &mut K) -> Result<()> {
+    let text = answers(alloc, str::from_utf8(bundle)?)?;
+    Ok(write_all(sink, &text)?)
 }

@@ -121,6 +121,19 @@ fn write_form(
     Ok(())
 }
 
+/// Writes the number of a formula, and how many nodes it has.
+fn write_sized(
+    alloc: Global,
+    interner: &mut Interner,
+    formula: &Formula,
+    out: &mut Writer,
+) -> Result<(), AllocError> {
+    let id = intern(alloc, interner, formula)?;
+    write_number(out, b" ", id.0 as u64);
+    write_number(out, b" size ", formula.size() as u64);
+    Ok(())
+}
+
 /// Writes the number of a formula's copy, and how many nodes the copy has.
 fn write_copy(
     alloc: Global,
@@ -129,10 +142,7 @@ fn write_copy(
     out: &mut Writer,
 ) -> Result<(), AllocError> {
     let copy = formula.copy(alloc)?;
-    let id = intern(alloc, interner, &copy)?;
-    write_number(out, b" ", id.0 as u64);
-    write_number(out, b" size ", copy.size() as u64);
-    Ok(())
+    write_sized(alloc, interner, &copy, out)
 }
 
 /// Writes the number of a formula, that of its copy, how many nodes the copy has, how many parts it has, and the form of its

@@ -50,11 +50,6 @@ pub(crate) fn write_number(out: &mut Writer, mark: &[u8], number: u64) {
     }
 }
 
-/// Writes whether something is so.
-pub(crate) fn write_truth(out: &mut Writer, is_so: bool) {
-    out.push_all(if is_so { b" true" } else { b" false" });
-}
-
 /// Writes that a word isn't known.
 pub(crate) fn write_unknown(out: &mut Writer) {
     out.push_all(b" unknown");

@@ -1,36 +1,19 @@
-//! Answers each text of a bundle by the crates of automata: nodes, automata and core formulas that no text of `pale` shows. The file
-//! `stdin` has the bundle, and `stdout` what has to be written for it.
+//! Answers each text of a bundle by the crates of decision nodes and core formulas, of which no text of `pale` shows what stands
+//! here. The file `stdin` has the bundle, and `stdout` what has to be written for it.
 //!
 //! What stands in front of the first head is a comment. A head is a line `=== NAME OPERATION WORDS`. The text goes from behind
 //! the head up to the newline before the next head, or to the end of the bundle. For each text the head is written, and then
-//! what the operation gives, mostly each line with a colon and an answer. An unknown word is
-//! answered by `unknown`.
+//! each line with a colon and what the operation gives for it. An unknown word is answered by `unknown`.
 //!
-//! - `automata GUIDE LIMIT`: each line makes an automaton in a shelf of its own with room for so many nodes (`guides`). The first
-//!   word is a literal, whose minimal automaton is made (`literals`); each further word is a step to the next automaton (`steps`)
-//!   or something that is written of it (`looks`). A full shelf ends the line with `limit`. At its end stands how many nodes are
-//!   left without the last automaton.
-//! - `built`: the same of an automaton by hand, where the first word says which of its three states accept.
-//! - `chains`: a line has rows, columns and `least` with tracks, as in `looks`: the lightest tree of a chain of states in a grid.
 //! - `joins LIMIT`: what joins, restrictions and renamings give of two functions in a shelf of its own, and what is left there.
 //! - `graph`: a line is a form over tracks and numbers, which gets a number, or asks for what has one: `parts 3` and `form 3`, or
 //!   the number of a large formula, `negations 9`, `zigzag 9` or `doubled 9`, with its size.
 #![tactic(auto)]
 
-mod agreeing;
-mod built;
 mod bundle;
-mod chain;
-mod chains;
 mod graphs;
-mod grid;
-mod guides;
 mod joins;
 mod lines;
-mod literals;
-mod looks;
-mod steps;
-mod trees;
 
 use crate::bundle::show_texts;
 use anyhow::Result;
@@ -41,7 +24,6 @@ const MOST_BYTES: usize = 16_777_216;
 
 fn main(rt: HostRuntime) -> Result<()> {
     let mut source = StdSource::new(rt.stdin());
-    let mut sink = StdSink::new(rt.stdout());
     let bundle = read_all(rt.alloc(), &mut source, MOST_BYTES)?;
-    show_texts(rt.alloc(), str::from_utf8(&bundle)?, &mut sink)
+    show_texts(rt.alloc(), &bundle, &mut StdSink::new(rt.stdout()))
 }

@@ -1,5 +1,0 @@
-use Rattle.kernel_gallery.specs.Functions.{AreValues}
-use Rattle.kernel_gallery.proofs.grid.numbers_of.Given as goal
-
-abbrev pub invariant-loop-number : goal.invariant-loop-number
-invariant-loop-number l = AreValues (λ k. k) l.number l.list.items

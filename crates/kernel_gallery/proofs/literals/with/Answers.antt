@@ -1,7 +1,0 @@
-use Rattle.kernel_gallery.proofs.TablesLemmas.{IsAuto-beside}
-use Rattle.kernel_gallery.proofs.literals.with.Goals as goal
-
-pub product-requires-clause-first : goal.product-requires-clause-first
-product-requires-clause-first c =
-    IsAuto-beside c.args.g.now c.args.shelf.now c.automaton.new.shelf c.args.a.now c.in_ok-b.b c.requires.shelf
-    c.automaton.ensures.kept c.in_ok-b.ensures.table c.requires.auto
