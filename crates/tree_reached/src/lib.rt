@@ -8,6 +8,7 @@
 
 mod cells;
 mod ends;
+mod gaps;
 pub mod laws;
 mod replacing;
 mod steps;
