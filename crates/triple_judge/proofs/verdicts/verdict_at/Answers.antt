@@ -15,10 +15,10 @@ pub verdict_on-requires-clause-same : goal.verdict_on-requires-clause-same
 verdict_on-requires-clause-same g c =
     let types = c.args.l.now.types in
     let vars = c.args.l.now.vars in
-    same-on-trees types vars c.in-Some.formula c.in_ok-easier.easier
+    same-on-trees types vars c.in-Some.formula c.in_ok-easier-in-Some.easier
     (λ a finite sat.
     lays-out types vars c.args.t.now c.requires.table a finite c.args.site c.in-Some.formula (sym c.in_ok-formula.ensures.value ∙ c.in-Some.is) sat)
-    c.in_ok-easier.ensures
+    c.in_ok-easier-in-Some.ensures
 
 pub returns-in_ok-verdict-in-Some-clause-value : goal.returns-in_ok-verdict-in-Some-clause-value
 returns-in_ok-verdict-in-Some-clause-value g c =
