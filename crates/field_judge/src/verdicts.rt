@@ -9,6 +9,7 @@ ghost use Rattle.ws2s_theory.specs.Peaks.{HasPeak};
 ghost use Rattle.ws2s_decide.specs.declared.verdict.Verdict.{Verdict};
 ghost use Rattle.ws2s_decide.specs.Deciding.{IsVerdict, guide_of, HasKept};
 ghost use Rattle.tree_encode.specs.Spaces as spaces;
+ghost use Rattle.tree_reached.specs.Alike.{LaysOutTrees};
 ghost use Rattle.field_judge.specs.Known.{FollowsFrom};
 
 use crate::guides::first_guide;
@@ -92,7 +93,7 @@ pub fn verdict_on(
     }
 }
 
-/// The verdict on a formula of a layout's trees under the layout's guide, by a decider for this formula alone, which tries easier ones
+/// The verdict on a formula that trees of the layout's stores alone satisfy, under the layout's guide, by a decider for this formula alone, which tries easier ones
 /// under the first guide: one in which types of many fields are told by field, and with what is known in front.
 ///
 /// # Errors
@@ -109,6 +110,7 @@ pub(crate) fn verdict_alone(
 ) -> Result<Verdict, AllocError>
     requires tables { HasNoTables shelf.old }
     requires follows { FollowsFrom formula.now known.now }
+    requires trees { LaysOutTrees l.now.types l.now.vars formula.now }
     ensures value { IfOk result (IsVerdict tracks.now formula.now) }
     ensures limit { result ≡ Ok Verdict.Limit → (p : ℕ) →
         HasPeak (spaces.guide_of l.now.types l.now.vars l.now.spares) formula.now p → limit_of shelf.old < p }

@@ -73,7 +73,7 @@ letter (Some w) = true
 abbrev pub IsLedOn : List TypeEntry → Assignment → List Way → Assignment → ℕ → Option ℕ → Option ℕ → Position → Type 0
 IsLedOn types a ws b k from further p = (r : Position) × (p ≡ r ++ letter from ∷ []) × (IsFurther b further r ⊎ Begins types a ws k r)
 
-not_same : (t next : ℕ) → t < next → t ≢ next
+pub not_same : (t next : ℕ) → t < next → t ≢ next
 not_same t next below e = let k : ⊥ = omega (arith, e, below) in k
 
 -- ---- another set on a track behind the layout's

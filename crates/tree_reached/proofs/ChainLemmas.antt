@@ -1,10 +1,10 @@
 -- What all steps say together: what is looked at is led to by a way.
-use Rattle.std.proofs.Common.{◌≡◌, ℕ, zero, suc, ◌<◌, ◌≤◌, ◌+◌, ◌↔◌, ◌⊎◌, inl, inr, Bool, true, false, ◌&&◌, IsTrue, List, [], ◌∷◌, ◌++◌, length}
-use Rattle.std.proofs.Common.{Option, Some, None, refl, sym, ap, ◌∙◌, subst, append_assoc, arith}
+use Rattle.std.proofs.Common.{◌≡◌, ℕ, zero, suc, ◌<◌, ◌≤◌, ◌+◌, ◌-◌, ◌↔◌, ◌⊎◌, inl, inr, Bool, true, false, ◌&&◌, IsTrue, List, [], ◌∷◌, ◌++◌, length}
+use Rattle.std.proofs.Common.{Option, Some, None, Contains, flat_map, refl, sym, ap, ◌∙◌, subst, append_assoc, append-nil, arith}
 use Rattle.std.proofs.lemmas.Bool.{false≢true, lt-ltb}
 use Rattle.std.proofs.lemmas.List.{same_from_push}
 use Rattle.gta_theory.specs.Assignments.{Position, PositionSet, Assignment, IsFinite, IsFiniteSet, replace}
-use Rattle.gta_theory.proofs.AssignmentsLemmas.{replace-same}
+use Rattle.gta_theory.proofs.AssignmentsLemmas.{replace-same, replace-other}
 use Rattle.ws2s_core.specs.declared.track.Track.{Track}
 use Rattle.ws2s_core.specs.declared.formula.Formula.{Formula}
 use Rattle.ws2s_core.specs.declared.formula.Formula.TheVariants.{And, Ex2}
@@ -18,13 +18,14 @@ use Rattle.store_core.specs.declared.ids.TypeId.{TypeId}
 use Rattle.store_core.specs.Tables.{TypeEntry, VarEntry}
 use Rattle.store_core.proofs.FittingLemmas.{IsSomeAnd-at}
 use Rattle.tree_encode.specs.Tracks.{of_variant, track_count, variant_track}
-use Rattle.tree_store.specs.Shapes.{variant_in}
+use Rattle.tree_store.specs.Shapes.{variant_in, IsCellIn}
 use Rattle.tree_store.specs.Premises.{OwnersAreThere}
 use Rattle.tree_store.proofs.TablesLemmas.{track-few}
 use Rattle.tree_reached.specs.declared.ways.Way.{Way}
-use Rattle.tree_reached.specs.ByField.{is_looked_at, comes, are_led, are_led_by}
+use Rattle.tree_reached.specs.ByField.{is_looked_at, comes, are_led, is_earlier, led_apart, are_led_by}
 use Rattle.tree_reached.proofs.BeginsLemmas.{Begins, KnowsHolders, AgreesOn, IsBefore, IsFurther, IsLookedAt, letter, IsLedOn}
-use Rattle.tree_reached.proofs.BeginsLemmas.{AgreesOn-replace, StandsOn-agrees, looked-same, comes-means, looked-means, are_led-means}
+use Rattle.tree_reached.proofs.BeginsLemmas.{AgreesOn-replace, StandsOn-agrees, not_same, looked-same, comes-means, looked-means, are_led-means}
+use Rattle.tree_reached.proofs.KeptLemmas.{from-apart, kept-apart}
 
 -- ---- the truth of what is decided
 
@@ -80,6 +81,11 @@ pub record Led (types : List TypeEntry) (a : Assignment) (ws : List Way) (k n : 
   pub begin : Begins types a ws (k + more) from
   pub is : p ≡ from ++ (ones more ++ c ∷ [])
 
+-- a live cell of the type is so many steps by 1 and one by 0 below the position, and no way to it begins there or between
+pub record Owes (types : List TypeEntry) (a : Assignment) (ws : List Way) (ty : TypeId) (k : ℕ) (q : Position) : Type 0 where
+  pub live : IsCellIn types a ty (q ++ (ones k ++ false ∷ []))
+  pub none : (m : ℕ) → m ≤ k → Begins types a ws m (q ++ ones (k - m)) → ⊥
+
 module _ (types : List TypeEntry) (a : Assignment) (ws : List Way) where
   at-once : (k : ℕ) (r : Position) → Begins types a ws k r → Begins types a ws (k + 0) r
   at-once k r begin = (let e : k ≡ k + 0 = omega arith in subst (λ (m : ℕ). Begins types a ws m r) e begin)
@@ -124,6 +130,37 @@ module _ (types : List TypeEntry) (a : Assignment) (ws : List Way) where
   led-alone k zero b from p r few begin is = (r, is, inr (from-once k r begin))
   led-alone k (suc m) b from p r few begin is = absurd (let none : ⊥ = omega (arith, few) in none)
 
+-- a live cell, where no way begins above it
+pub owes-first : (types : List TypeEntry) (a : Assignment) (ws : List Way) (ty : TypeId) (r : Position) → IsCellIn types a ty (r ++ false ∷ []) →
+    (Begins types a ws 0 r → ⊥) → Owes types a ws ty 0 r
+owes-first types a ws ty r cell none = record {
+  live = cell;
+  none = λ m few begin.
+      let is : m ≡ 0 = omega (arith, few) in
+      let all : 0 - m ≡ 0 = omega arith in
+      none (subst (λ (i : ℕ). Begins types a ws i r) is
+      (subst (Begins types a ws m) (ap (λ (i : ℕ). r ++ ones i) all ∙ append-nil r) begin));
+}
+
+-- one step up, where no way begins either
+owes-more : (types : List TypeEntry) (a : Assignment) (ws : List Way) (ty : TypeId) (k : ℕ) (r : Position) → Owes types a ws ty k (r ++ true ∷ []) →
+    (Begins types a ws (suc k) r → ⊥) → Owes types a ws ty (suc k) r
+owes-more types a ws ty k r owes none = record {
+  live = subst (IsCellIn types a ty) (append_assoc r (true ∷ []) (ones k ++ false ∷ [])) owes.live;
+  none = λ m few begin. by m (suc k - m) refl few begin;
+}
+  where
+    by : (m d : ℕ) → suc k - m ≡ d → m ≤ suc k → Begins types a ws m (r ++ ones (suc k - m)) → ⊥
+    by m zero e few begin =
+        let is : m ≡ suc k = omega (arith, e, few) in
+        none (subst (λ (i : ℕ). Begins types a ws i r) is
+        (subst (Begins types a ws m) (ap (λ (i : ℕ). r ++ ones i) e ∙ append-nil r) begin))
+    by m (suc d) e few begin =
+        let within : m ≤ k = omega (arith, e) in
+        let rest : suc d ≡ suc (k - m) = omega (arith, e, within) in
+        owes.none m within
+        (subst (Begins types a ws m) (ap (λ (i : ℕ). r ++ ones i) (e ∙ rest) ∙ sym (append_assoc r (true ∷ []) (ones (k - m)))) begin)
+
 module _ (types : List TypeEntry) (vars : List VarEntry) (owners : OwnersAreThere types) (a : Assignment) (ws : List Way) (known : KnowsHolders types ws)
     (finite : IsFinite a) (ty : TypeId) where
   -- ---- what is decided, and what is finite
@@ -166,17 +203,18 @@ module _ (types : List TypeEntry) (vars : List VarEntry) (owners : OwnersAreTher
     looked-finite (Some w) =
         let (depth, within) = agrees.finite w in (depth, (λ p deep on. false≢true (sym (within p deep) ∙ on)))
 
-  -- ---- one step more, where the rest means what it says
+  -- ---- one step more
 
-  module _ (n k next : ℕ) (from : Option ℕ) (b : Assignment) (few : track_count types vars ≤ next) (before : IsBefore from next)
-      (agrees : AgreesOn (track_count types vars) a b)
-      (others : (c : Assignment) → AgreesOn (track_count types vars) a c → WSat (are_led_by (suc next) types ws ty (suc k) n (Some next)) c
-      ↔ ((p : Position) → IsLookedAt types a c ty (Some next) p → Led types a ws (suc k) n true p)) where
+  module _ (gs : List ℕ) (n k next : ℕ) (from : Option ℕ) (b : Assignment) (few : track_count types vars ≤ next) (before : IsBefore from next)
+      (agrees : AgreesOn (track_count types vars) a b) where
     abbrev rest : Formula
-    rest = are_led_by (suc next) types ws ty (suc k) n (Some next)
+    rest = are_led_by (suc next) types ws gs ty (suc k) n (Some next)
 
     abbrev step : Formula
     step = are_led (suc next) types ws ty k from (Some next)
+
+    abbrev kept : Formula
+    kept = led_apart next k gs step
 
     inside : (set : PositionSet) → IsFiniteSet set → AgreesOn (track_count types vars) a (replace b next set)
     inside set bounded = AgreesOn-replace (track_count types vars) a b next set few agrees bounded
@@ -189,12 +227,13 @@ module _ (types : List TypeEntry) (vars : List VarEntry) (owners : OwnersAreTher
         are_led-means types vars owners a ws known ty (replace b next set) (suc next) more (inside set bounded) k from (Some next)
         (IsBefore-more from next before) own
 
-    onwards : (set : PositionSet) → IsFiniteSet set → WSat rest (replace b next set) → WSat step (replace b next set) →
-        (p : Position) → IsLookedAt types a b ty from p → Led types a ws k (suc n) (letter from) p
-    onwards set bounded of_rest of_step p seen =
+    onwards : (set : PositionSet) → IsFiniteSet set →
+        ((p : Position) → IsLookedAt types a (replace b next set) ty (Some next) p → Led types a ws (suc k) n true p) →
+        WSat step (replace b next set) → (p : Position) → IsLookedAt types a b ty from p → Led types a ws k (suc n) (letter from) p
+    onwards set bounded inner of_step p seen =
         let (r, is, comes) = (one set bounded).0 of_step p ((looked-same types a b ty next set from p before).1 seen) in
         elim comes as (λ _. Led types a ws k (suc n) (letter from) p) [
-          | inl in_set ↦ led-on types a ws k n (letter from) p r is ((others (replace b next set) (inside set bounded)).0 of_rest r in_set)
+          | inl in_set ↦ led-on types a ws k n (letter from) p r is (inner r in_set)
           | inr begin ↦ led-here types a ws k (suc n) (letter from) p r is begin
         ]
 
@@ -240,50 +279,113 @@ module _ (types : List TypeEntry) (vars : List VarEntry) (owners : OwnersAreTher
         let up = is ∙ sym (turned r m (letter from)) in
         (r ++ (ones m ++ true ∷ []), up, via p seen (r ++ (ones m ++ true ∷ [])) up)
 
-    back : ((p : Position) → IsLookedAt types a b ty from p → Led types a ws k (suc n) (letter from) p) → WSat (Ex2 (track next) (And rest step)) b
-    back h =
-        (WSat-Ex2 (track next) (And rest step) b).1 (
-          chosen,
-          chosen-finite,
-          (WSat-And rest step (replace b next chosen)).1 (
-            (others (replace b next chosen) (inside chosen chosen-finite)).1 (λ r on.
-                let (seen, none) = (in-set r).0 on in
-                let led = h (r ++ letter from ∷ []) seen in
-                led-back types a ws k n led.more (letter from) r led.from led.within led.begin led.is none),
-            (one chosen chosen-finite).1 (λ p on.
-                let seen = (looked-same types a b ty next chosen from p before).0 on in
-                let led = h p seen in
-                led-by p seen led.more led.from led.begin led.is),
-          ),
-        )
+    -- what is looked at next is led to, and this step is as it should be
+    chosen-led : ((p : Position) → IsLookedAt types a b ty from p → Led types a ws k (suc n) (letter from) p) →
+        (p : Position) → IsLookedAt types a (replace b next chosen) ty (Some next) p → Led types a ws (suc k) n true p
+    chosen-led h r on =
+        let (seen, none) = (in-set r).0 on in
+        let led = h (r ++ letter from ∷ []) seen in
+        led-back types a ws k n led.more (letter from) r led.from led.within led.begin led.is none
 
-    all-steps : WSat (Ex2 (track next) (And rest step)) b ↔ ((p : Position) → IsLookedAt types a b ty from p → Led types a ws k (suc n) (letter from) p)
-    all-steps = (
-      (λ h.
-          let (set, bounded, sat) = (WSat-Ex2 (track next) (And rest step) b).0 h in
-          let both = (WSat-And rest step (replace b next set)).0 sat in
-          onwards set bounded both.0 both.1),
-      back,
-    )
+    chosen-step : ((p : Position) → IsLookedAt types a b ty from p → Led types a ws k (suc n) (letter from) p) → WSat step (replace b next chosen)
+    chosen-step h = (one chosen chosen-finite).1 (λ p on.
+        let seen = (looked-same types a b ty next chosen from p before).0 on in
+        let led = h p seen in
+        led-by p seen led.more led.from led.begin led.is)
+
+    -- ---- what the sets of the steps so far owe
+
+    module _ (fits : k ≤ next)
+        (held : (gap : ℕ) → 1 ≤ gap → gap ≤ k → (q : Position) → IsTrue (b (next - gap) q) → Owes types a ws ty (k - gap) q)
+        (looks : (r : Position) → IsLookedAt types a b ty from (r ++ letter from ∷ []) → (Begins types a ws k r → ⊥) → Owes types a ws ty k r)
+        (never : (j m gap : ℕ) (q : Position) → Contains gs gap → m ≡ j + gap → Owes types a ws ty j q → Owes types a ws ty m q → ⊥) where
+      chosen-owes : (q : Position) → IsTrue (replace b next chosen next q) → Owes types a ws ty k q
+      chosen-owes q on = let (seen, none) = (in-set q).0 on in looks q seen none
+
+      earlier-owes : (gap : ℕ) → gap ≤ k → (q : Position) → IsTrue (replace b next chosen (next - gap) q) → Owes types a ws ty (k - gap) q
+      earlier-owes zero few_gap q on =
+          let at : next - 0 ≡ next = omega arith in
+          let so_many : k ≡ k - 0 = omega arith in
+          subst (λ (m : ℕ). Owes types a ws ty m q) so_many
+          (chosen-owes q (subst (λ (t : ℕ). IsTrue (replace b next chosen t q)) at on))
+      earlier-owes (suc g) few_gap q on =
+          let below : next - suc g < next = omega (arith, few_gap, fits) in
+          let some : 1 ≤ suc g = omega arith in
+          held (suc g) some few_gap q
+          (subst (λ (set : PositionSet). IsTrue (set q)) (replace-other b next (next - suc g) chosen (not_same (next - suc g) next below)) on)
+
+      chosen-kept : ((p : Position) → IsLookedAt types a b ty from p → Led types a ws k (suc n) (letter from) p) → WSat kept (replace b next chosen)
+      chosen-kept h =
+          kept-apart next (replace b next chosen) (inside chosen chosen-finite).finite k gs step fits (chosen-step h) (λ q on gap listed few_gap earlier.
+          let sum : k ≡ (k - gap) + gap = omega (arith, few_gap) in
+          never (k - gap) k gap q listed sum (earlier-owes gap few_gap q earlier) (chosen-owes q on))
+
+      held-next : (gap : ℕ) → 1 ≤ gap → gap ≤ suc k → (q : Position) → IsTrue (replace b next chosen (suc next - gap) q) →
+          Owes types a ws ty (suc k - gap) q
+      held-next zero some few_gap q on = absurd (let no : ⊥ = omega (arith, some) in no)
+      held-next (suc g) some few_gap q on =
+          let at : suc next - suc g ≡ next - g = omega arith in
+          let so_many : k - g ≡ suc k - suc g = omega arith in
+          let within : g ≤ k = omega (arith, few_gap) in
+          subst (λ (m : ℕ). Owes types a ws ty m q) so_many
+          (earlier-owes g within q (subst (λ (t : ℕ). IsTrue (replace b next chosen t q)) at on))
+
+      looks-next : (r : Position) → IsLookedAt types a (replace b next chosen) ty (Some next) (r ++ true ∷ []) → (Begins types a ws (suc k) r → ⊥) →
+          Owes types a ws ty (suc k) r
+      looks-next r on none = owes-more types a ws ty k r (chosen-owes (r ++ true ∷ []) on) none
 
   -- ---- all steps
 
-  pub by-means : (n k next : ℕ) (from : Option ℕ) (b : Assignment) → track_count types vars ≤ next → IsBefore from next →
-      AgreesOn (track_count types vars) a b →
-      WSat (are_led_by next types ws ty k n from) b ↔ ((p : Position) → IsLookedAt types a b ty from p → Led types a ws k n (letter from) p)
-  by-means zero k next from b few before agrees =
-      let one = are_led-means types vars owners a ws known ty b next few agrees k from None before tt in (
-        (λ h p seen.
-            let (r, is, comes) = one.0 h p seen in
-            elim comes as (λ _. Led types a ws k zero (letter from) p) [
-              | inl none ↦ absurd none
-              | inr begin ↦ led-here types a ws k zero (letter from) p r is begin
-            ]),
-        (λ h. one.1 (λ p seen.
-            let led = h p seen in
-            led-alone types a ws k led.more b from p led.from led.within led.begin led.is)),
-      )
-  by-means (suc n) k next from b few before agrees =
+  pub by-sound : (gs : List ℕ) (n k next : ℕ) (from : Option ℕ) (b : Assignment) → track_count types vars ≤ next → IsBefore from next →
+      AgreesOn (track_count types vars) a b → WSat (are_led_by next types ws gs ty k n from) b →
+      (p : Position) → IsLookedAt types a b ty from p → Led types a ws k n (letter from) p
+  by-sound gs zero k next from b few before agrees h p seen =
+      let one = are_led-means types vars owners a ws known ty b next few agrees k from None before tt in
+      let (r, is, comes) = one.0 h p seen in
+      elim comes as (λ _. Led types a ws k zero (letter from) p) [
+        | inl none ↦ absurd none
+        | inr begin ↦ led-here types a ws k zero (letter from) p r is begin
+      ]
+  by-sound gs (suc n) k next from b few before agrees h p seen =
+      let others = rest gs n k next from b few before agrees in
       let own : next < suc next = omega arith in
       let more : track_count types vars ≤ suc next = omega (arith, few) in
-      all-steps n k next from b few before agrees (λ c inner. by-means n (suc k) (suc next) (Some next) c more own inner)
+      let this = step gs n k next from b few before agrees in
+      let (set, bounded, sat) = (WSat-Ex2 (track next) (And others (led_apart next k gs this)) b).0 h in
+      let both = (WSat-And others (led_apart next k gs this) (replace b next set)).0 sat in
+      onwards gs n k next from b few before agrees set bounded
+      (by-sound gs n (suc k) (suc next) (Some next) (replace b next set) more own (inside gs n k next from b few before agrees set bounded) both.0)
+      (from-apart next (flat_map (is_earlier next (suc next) k) gs) this (replace b next set) both.1) p seen
+
+  pub by-complete : (gs : List ℕ) →
+      ((j m gap : ℕ) (q : Position) → Contains gs gap → m ≡ j + gap → Owes types a ws ty j q → Owes types a ws ty m q → ⊥) →
+      (n k next : ℕ) (from : Option ℕ) (b : Assignment) → track_count types vars ≤ next → IsBefore from next →
+      AgreesOn (track_count types vars) a b → k ≤ next →
+      ((gap : ℕ) → 1 ≤ gap → gap ≤ k → (q : Position) → IsTrue (b (next - gap) q) → Owes types a ws ty (k - gap) q) →
+      ((r : Position) → IsLookedAt types a b ty from (r ++ letter from ∷ []) → (Begins types a ws k r → ⊥) → Owes types a ws ty k r) →
+      ((p : Position) → IsLookedAt types a b ty from p → Led types a ws k n (letter from) p) → WSat (are_led_by next types ws gs ty k n from) b
+  by-complete gs never zero k next from b few before agrees fits held looks h =
+      let one = are_led-means types vars owners a ws known ty b next few agrees k from None before tt in
+      one.1 (λ p seen.
+      let led = h p seen in
+      led-alone types a ws k led.more b from p led.from led.within led.begin led.is)
+  by-complete gs never (suc n) k next from b few before agrees fits held looks h =
+      let others = rest gs n k next from b few before agrees in
+      let own : next < suc next = omega arith in
+      let more : track_count types vars ≤ suc next = omega (arith, few) in
+      let this = step gs n k next from b few before agrees in
+      let set = chosen gs n k next from b few before agrees in
+      let bounded = chosen-finite gs n k next from b few before agrees in
+      let fits_on : suc k ≤ suc next = omega (arith, fits) in
+      (WSat-Ex2 (track next) (And others (led_apart next k gs this)) b).1 (
+        set,
+        bounded,
+        (WSat-And others (led_apart next k gs this) (replace b next set)).1 (
+          by-complete gs never n (suc k) (suc next) (Some next) (replace b next set) more own
+              (inside gs n k next from b few before agrees set bounded) fits_on
+              (held-next gs n k next from b few before agrees fits held looks never)
+              (looks-next gs n k next from b few before agrees fits held looks never)
+              (chosen-led gs n k next from b few before agrees h),
+          chosen-kept gs n k next from b few before agrees fits held looks never h,
+        ),
+      )

@@ -1,6 +1,8 @@
 pub mod WaysLemmas
 pub mod CellsLemmas
 pub mod BeginsLemmas
+pub mod GapsLemmas
+pub mod KeptLemmas
 pub mod ChainLemmas
 pub mod ReachedLemmas
 pub mod GoingLemmas

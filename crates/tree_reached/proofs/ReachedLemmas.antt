@@ -1,12 +1,12 @@
 -- The formula by field is satisfied exactly where each live cell of the type is at one of its places.
-use Rattle.std.proofs.Common.{◌≡◌, ℕ, suc, ◌<◌, ◌≤◌, ◌+◌, ◌↔◌, ◌⊎◌, inl, inr, true, false, List, [], ◌∷◌, ◌++◌, Option, Some, None}
+use Rattle.std.proofs.Common.{◌≡◌, ℕ, suc, ◌<◌, ◌≤◌, ◌+◌, ◌⊎◌, inl, inr, true, false, List, [], ◌∷◌, ◌++◌, Option, Some, None, Contains}
 use Rattle.std.proofs.Common.{append_assoc, refl, sym, ap, ◌∙◌, subst, arith}
-use Rattle.std.proofs.lemmas.Bool.{false≢true}
+use Rattle.std.proofs.lemmas.Bool.{true≢false, false≢true}
 use Rattle.std.proofs.lemmas.List.{same_from_push}
 use Rattle.gta_theory.specs.Assignments.{Position, Assignment, IsFinite, replace}
 use Rattle.ws2s_core.specs.declared.formula.Formula.{Formula}
 use Rattle.ws2s_core.specs.declared.formula.Formula.TheVariants.{Succ1, And, Ex2}
-use Rattle.ws2s_core.specs.Satisfaction.{WSat, Same}
+use Rattle.ws2s_core.specs.Satisfaction.{WSat}
 use Rattle.ws2s_core.proofs.SatisfactionLemmas.{WSat-And, WSat-Not, WSat-Ex2, WSat-Succ1}
 use Rattle.ws2s_forms.specs.Forms.{track, ex1}
 use Rattle.ws2s_forms.specs.Places.{ones, child_of, with_position}
@@ -19,16 +19,18 @@ use Rattle.store_core.specs.Tables.{TypeEntry, FieldEntry, VarEntry, IsTypeTable
 use Rattle.store_core.proofs.FittingLemmas.{IsSomeAnd-at}
 use Rattle.tree_encode.specs.Tracks.{track_count}
 use Rattle.tree_formula.specs.WellEncoded.{is_live, are_reached}
-use Rattle.tree_store.specs.Shapes.{IsCellIn, IsSlotFor, IsChildFor}
+use Rattle.tree_store.specs.Shapes.{IsCellIn, IsSlotFor, IsChildFor, LaysOut}
 use Rattle.tree_store.specs.Premises.{OwnersAreThere}
 use Rattle.tree_store.proofs.PlacesLemmas.{are_reached-means}
 use Rattle.tree_store.proofs.StandingLemmas.{StandsOn-bound, is_live-means}
 use Rattle.tree_store.proofs.TablesLemmas.{owners-there}
 use Rattle.tree_reached.specs.declared.ways.Way.{Way}
-use Rattle.tree_reached.specs.ByField.{way, ways, last_number, are_at_ends, are_led_by, none_by_one, are_led_to, reached_by_field}
+use Rattle.tree_reached.specs.ByField.{way, ways, last_number, are_at_ends, gaps, are_led_by, none_by_one, are_led_to, reached_by_field}
+use Rattle.tree_reached.specs.Alike.{AlikeOnTrees}
 use Rattle.tree_reached.proofs.WaysLemmas.{reached-ends, way-cases, slot-listed, child-listed, number-within}
-use Rattle.tree_reached.proofs.BeginsLemmas.{IsFrom, Begins, KnowsHolders}
-use Rattle.tree_reached.proofs.ChainLemmas.{Led, by-means}
+use Rattle.tree_reached.proofs.BeginsLemmas.{IsFrom, Begins, KnowsHolders, AgreesOn}
+use Rattle.tree_reached.proofs.GapsLemmas.{gap-parts, between, begun-once, split-ones, child-ones, below-child}
+use Rattle.tree_reached.proofs.ChainLemmas.{Led, Owes, owes-first, by-sound, by-complete}
 
 module _ (types : List TypeEntry) (vars : List VarEntry) (a : Assignment) (ty : TypeId) where
   holders-known : KnowsHolders types (ways types vars ty)
@@ -137,44 +139,77 @@ module _ (types : List TypeEntry) (vars : List VarEntry) (a : Assignment) (ty : 
       none p u ((is_live-means types vars a b next p stands (suc next) ty).0 both.0)
       (IsOnly-same (b next) p (u ++ true ∷ []) stands.only ((bound_other b (suc next) next set (u ++ true ∷ []) own).0 at_next)))
 
-  reached-means : OwnersAreThere types → (next : ℕ) → track_count types vars ≤ next → IsFinite a →
-      WSat (reached_by_field next types vars ty) a ↔ ((p : Position) → IsCellIn types a ty p → IsSlotFor vars ty p ⊎ IsChildFor types a ty p)
-  reached-means owners next few finite =
-      let ws = ways types vars ty in
-      let chain = are_led_by next types ws ty 0 (last_number ws) None in
-      let means = by-means types vars owners a ws holders-known finite ty (last_number ws) 0 next None a few tt
-      (record { same = λ t below. refl; finite = finite }) in
-      let both = WSat-And (none_by_one next types ty) chain a in (
-        (λ h p cell. led-placed p (means.0 (both.0 h).1 p cell)),
-        (λ h. both.1 (
-          none-by-one next few finite (λ p r cell. led-by-zero p r (placed-led p (h p cell))),
-          means.1 (λ p cell. placed-led p (h p cell)),
-        )),
-      )
+  -- what is looked at for steps that are a gap apart is never one position
+  module _ (laid : LaysOut types vars a) where
+    abbrev all : List Way
+    all = ways types vars ty
 
--- so both formulas say the same
+    -- the way to the cell begins above the position
+    above : (k : ℕ) (q : Position) → Owes types a all ty k q →
+        (s : ℕ) × (r : Position) × Begins types a all (k + suc s) r × (q ≡ r ++ ones (suc s))
+    above k q owes =
+        let (i, r, begin, is) = placed-begun (child_of k q) (laid.placed ty (child_of k q) owes.live) in
+        elim (split-ones q r k i (child-ones q r k i is)) as (λ _. (s : ℕ) × (r : Position) × Begins types a all (k + suc s) r × (q ≡ r ++ ones (suc s))) [
+          | inl not_above ↦ absurd (owes.none i not_above.0 (subst (Begins types a all i) not_above.1 begin))
+          | inr found ↦ (found.0, r, subst (λ (m : ℕ). Begins types a all m r) found.1 begin, found.2)
+        ]
+
+    never-both : (j m gap : ℕ) (q : Position) → Contains (gaps types all) gap → m ≡ j + gap → Owes types a all ty j q → Owes types a all ty m q → ⊥
+    never-both j m gap q listed sum one other =
+        let (s, r, begin, below) = above j q one in
+        let (t, u, start, under) = above m q other in
+        let same = sym (below-child q r (suc s) below) ∙ below-child q u (suc t) under in
+        let (steps, alike) = begun-once types vars a laid all holders-known begin.path start.path r u (suc s) (suc t) begin.among start.among begin.from
+        start.from same in
+        let number : begin.path.number + gap ≡ start.path.number = omega (arith, begin.steps, start.steps, steps, sum) in
+        true≢false
+        (sym (between types all gap begin.path start.path begin.among start.among number alike) ∙ gap-parts types all gap listed)
+
+    complete : OwnersAreThere types → (next : ℕ) → track_count types vars ≤ next → IsFinite a → WSat (reached_by_field next types vars ty) a
+    complete owners next few finite =
+        let chain = are_led_by next types all (gaps types all) ty 0 (last_number all) None in
+        let agrees : AgreesOn (track_count types vars) a a = record { same = λ t below. refl; finite = finite } in
+        let fits : 0 ≤ next = omega arith in
+        (WSat-And (none_by_one next types ty) chain a).1 (
+          none-by-one next few finite (λ p r cell. led-by-zero p r (placed-led p (laid.placed ty p cell))),
+          by-complete types vars owners a all holders-known finite ty (gaps types all) never-both (last_number all) 0 next None a few tt agrees fits
+              (λ gap some within q on. absurd (let no : ⊥ = omega (arith, some, within) in no))
+              (λ r cell none. owes-first types a all ty r cell none)
+              (λ p cell. placed-led p (laid.placed ty p cell)),
+        )
+
+  sound : OwnersAreThere types → (next : ℕ) → track_count types vars ≤ next → IsFinite a → WSat (reached_by_field next types vars ty) a →
+      (p : Position) → IsCellIn types a ty p → IsSlotFor vars ty p ⊎ IsChildFor types a ty p
+  sound owners next few finite h p cell =
+      let ws = ways types vars ty in
+      let chain = are_led_by next types ws (gaps types ws) ty 0 (last_number ws) None in
+      led-placed p (by-sound types vars owners a ws holders-known finite ty (gaps types ws) (last_number ws) 0 next None a few tt
+      (record { same = λ t below. refl; finite = finite }) ((WSat-And (none_by_one next types ty) chain a).0 h).1 p cell)
+
+-- so what satisfies the formula by field satisfies that of trees, and of what lays out a backbone the other way round
 pub by-field-means : (types : List TypeEntry) (vars : List VarEntry) (next bound : ℕ) (a : Assignment) (ty : TypeId) → OwnersAreThere types →
     track_count types vars ≤ next → track_count types vars ≤ bound → IsFinite a →
-    WSat (reached_by_field next types vars ty) a ↔ WSat (are_reached bound types vars ty) a
-by-field-means types vars next bound a ty owners few within finite =
-    let by_field = reached-means types vars a ty owners next few finite in
-    let by_places = are_reached-means types vars owners a bound within finite ty in (
-      (λ h. by_places.1 (by_field.0 h)),
-      (λ h. by_field.1 (by_places.0 h)),
-    )
+    WSat (reached_by_field next types vars ty) a → WSat (are_reached bound types vars ty) a
+by-field-means types vars next bound a ty owners few within finite h =
+    (are_reached-means types vars owners a bound within finite ty).1 (sound types vars a ty owners next few finite h)
+
+pub laid-by-field : (types : List TypeEntry) (vars : List VarEntry) (next : ℕ) (a : Assignment) (ty : TypeId) → OwnersAreThere types →
+    track_count types vars ≤ next → IsFinite a → LaysOut types vars a → WSat (reached_by_field next types vars ty) a
+laid-by-field types vars next a ty owners few finite laid = complete types vars a ty laid owners next few finite
 
 -- as they are made, by the ways that are listed
 pub ends-by-field : (types : List TypeEntry) (vars : List VarEntry) (ty : TypeId) (us ws : List Way) (next : ℕ) (old new : Formula) → IsTypeTable types →
     track_count types vars ≤ next → us ≡ ways types vars ty → ws ≡ ways types vars ty → old ≡ are_at_ends next types ty us →
-    new ≡ are_led_to next types ws ty → Same old new
-ends-by-field types vars ty us ws next old new table few first second is_old is_new = record {
-  satisfied = λ a finite.
-      let old_is : old ≡ are_reached next types vars ty =
-      is_old ∙ ap (λ (us : List Way). are_at_ends next types ty us) first ∙ sym (reached-ends types vars next ty) in
-      let new_is : new ≡ reached_by_field next types vars ty =
-      is_new ∙ ap (λ (us : List Way). are_led_to next types us ty) second in
-      let same = by-field-means types vars next next a ty (owners-there types table) few few finite in (
-        (λ h. subst (λ (f : Formula). WSat f a) (sym new_is) (same.1 (subst (λ (f : Formula). WSat f a) old_is h))),
-        (λ h. subst (λ (f : Formula). WSat f a) (sym old_is) (same.0 (subst (λ (f : Formula). WSat f a) new_is h))),
-      );
-}
+    new ≡ are_led_to next types ws ty → AlikeOnTrees types vars old new
+ends-by-field types vars ty us ws next old new table few first second is_old is_new =
+    let owners = owners-there types table in
+    let old_is : old ≡ are_reached next types vars ty =
+    is_old ∙ ap (λ (us : List Way). are_at_ends next types ty us) first ∙ sym (reached-ends types vars next ty) in
+    let new_is : new ≡ reached_by_field next types vars ty =
+    is_new ∙ ap (λ (us : List Way). are_led_to next types us ty) second in
+    record {
+      on = λ a finite laid sat. subst (λ (f : Formula). WSat f a) (sym new_is) (laid-by-field types vars next a ty owners few finite laid);
+      back = λ a finite sat.
+          subst (λ (f : Formula). WSat f a) (sym old_is)
+          (by-field-means types vars next next a ty owners few few finite (subst (λ (f : Formula). WSat f a) new_is sat));
+    }

@@ -1,8 +1,9 @@
 -- Where cells of a type may stand, told by field: each cell by its parent's field, one step by 1 after the other. (Klarlund and
 -- Schwartzbach 1993: the well-formed labelings of a tree; the child number k of a cell r is at r 1^k 0. The chain of sets, one
 -- for each step, is own.)
-use Rattle.std.specs.Prelude.{ℕ, zero, suc, ◌==◌, max, List, [], ◌∷◌, ◌++◌, flat_map, map, fold, Option, Some, None, if◌then◌else◌}
-use Rattle.std.specs.Option.{option_map_or}
+use Rattle.std.specs.Prelude.{ℕ, zero, suc, ◌==◌, ◌&&◌, ◌+◌, ◌-◌, nat_le, max, Bool, true, false, List, [], ◌∷◌, ◌++◌, flat_map, map, fold, Option, Some, None, if◌then◌else◌}
+use Rattle.std.specs.Option.{option_map, option_map_or}
+use Rattle.std.specs.List.{list_any}
 use Rattle.ws2s_core.specs.declared.formula.Formula.{Formula}
 use Rattle.ws2s_core.specs.declared.formula.Formula.TheVariants.{Sub, Succ0, Succ1, Root, And, Not, Ex2}
 use Rattle.ws2s_forms.specs.Forms.{track, or_list, imp, ex1, all1, slot}
@@ -13,9 +14,11 @@ use Rattle.store_core.specs.declared.kind.FieldKind.{FieldKind}
 use Rattle.store_core.specs.declared.kind.FieldKind.TheVariants as field
 use Rattle.store_core.specs.declared.kind.VarKind.{VarKind}
 use Rattle.store_core.specs.declared.kind.VarKind.TheVariants as var
-use Rattle.store_core.specs.Tables.{TypeEntry, VarEntry, field_at, var_at}
+use Rattle.store_core.specs.declared.kind.Owner.{Owner}
+use Rattle.store_core.specs.declared.kind.Owner.TheVariants as owner
+use Rattle.store_core.specs.Tables.{TypeEntry, VarEntry, field_at, var_at, owner_of}
 use Rattle.tree_encode.specs.Tracks.{slot_of_var, child_number}
-use Rattle.tree_formula.specs.WellEncoded.{types_in, fields_in, vars_in, is_live, has, is_child}
+use Rattle.tree_formula.specs.WellEncoded.{named, types_in, fields_in, vars_in, is_live, has, is_child}
 use Rattle.tree_reached.specs.declared.ways.Way.{Way}
 
 -- ---- ways to the cells of a type
@@ -97,11 +100,63 @@ abbrev pub are_led : ℕ → List TypeEntry → List Way → TypeId → ℕ → 
 are_led next types ways ty k from further =
     all1 next (imp (is_looked_at (suc next) types ty from next) (is_led (suc next) types ways k from further next))
 
+-- ---- which sets no position shares
+
+-- some variant may have both fields, by which variants have each
+abbrev pub owners_alike : Option Owner → Option Owner → Bool
+owners_alike (Some (owner.Variant v)) (Some (owner.Variant w)) = v.index == w.index
+owners_alike _ _ = true
+
+-- ways of both holders may begin at one position: both at the root, or at a cell that has both fields
+abbrev pub holders_alike : List TypeEntry → Option FieldId → Option FieldId → Bool
+holders_alike types None None = true
+holders_alike types (Some f) (Some g) =
+    (f.ty.0 == g.ty.0) && owners_alike (option_map (owner_of f) (field_at types f)) (option_map (owner_of g) (field_at types g))
+holders_alike types _ _ = false
+
+-- the later way has so many more steps by 1, and may begin where the other one does
+abbrev pub comes_later : List TypeEntry → Way → ℕ → Way → Bool
+comes_later types w gap later = (w.number + gap == later.number) && holders_alike types w.holder later.holder
+
+-- some way has so many more steps than this one
+abbrev pub is_before : List TypeEntry → List Way → ℕ → Way → Bool
+is_before types ways gap w = list_any (comes_later types w gap) ways
+
+-- two of the ways that may begin at one position have so many steps between them
+abbrev pub is_between : List TypeEntry → List Way → ℕ → Bool
+is_between types ways gap = list_any (is_before types ways gap) ways
+
+abbrev pub gap_at : List TypeEntry → List Way → ℕ → List ℕ
+gap_at types ways gap = if is_between types ways gap then [] else gap ∷ []
+
+abbrev pub number : ℕ → ℕ
+number n = n
+
+-- the gaps: how many steps no two ways that may begin at one position have between them. What a position is looked at for so
+-- many steps apart would need two such ways
+abbrev pub gaps : List TypeEntry → List Way → List ℕ
+gaps types ways = flat_map (gap_at types ways) (named number (last_number ways))
+
+-- r is in the set of the step that is a gap before the one with number k, whose set is on the track `own`, if there is such a step
+abbrev pub is_earlier : ℕ → ℕ → ℕ → ℕ → List Formula
+is_earlier own r k gap = if nat_le gap k then Sub (track r) (track (own - gap)) ∷ [] else []
+
+-- no position is in the set and in one of those that the parts name, if there are any
+abbrev pub apart_from : ℕ → List Formula → Formula → Formula
+apart_from own [] led = led
+apart_from own (part ∷ parts) led =
+    And led (Not (ex1 (suc own) (And (Sub (track (suc own)) (track own)) (or_list (suc (suc own)) (part ∷ parts)))))
+
+-- the step with number k, whose set, on the track `own`, shares no position with those of earlier steps that the gaps name
+abbrev pub led_apart : ℕ → ℕ → List ℕ → Formula → Formula
+led_apart own k gaps led = apart_from own (flat_map (is_earlier own (suc own) k) gaps) led
+
 -- what is looked at is led to by ways with k steps by 1, or with up to n more: some set is what is looked at at the next step
-abbrev pub are_led_by : ℕ → List TypeEntry → List Way → TypeId → ℕ → ℕ → Option ℕ → Formula
-are_led_by next types ways ty k zero from = are_led next types ways ty k from None
-are_led_by next types ways ty k (suc n) from =
-    Ex2 (track next) (And (are_led_by (suc next) types ways ty (suc k) n (Some next)) (are_led (suc next) types ways ty k from (Some next)))
+abbrev pub are_led_by : ℕ → List TypeEntry → List Way → List ℕ → TypeId → ℕ → ℕ → Option ℕ → Formula
+are_led_by next types ways gaps ty k zero from = are_led next types ways ty k from None
+are_led_by next types ways gaps ty k (suc n) from =
+    Ex2 (track next) (And (are_led_by (suc next) types ways gaps ty (suc k) n (Some next))
+    (led_apart next k gaps (are_led (suc next) types ways ty k from (Some next))))
 
 -- no live cell of the type is below a position by 1; this follows from the first step, and keeps the sets of the others few
 abbrev pub none_by_one : ℕ → List TypeEntry → TypeId → Formula
@@ -110,7 +165,7 @@ none_by_one next types ty =
 
 -- each live cell of the type is led to by the ways
 abbrev pub are_led_to : ℕ → List TypeEntry → List Way → TypeId → Formula
-are_led_to next types ways ty = And (none_by_one next types ty) (are_led_by next types ways ty 0 (last_number ways) None)
+are_led_to next types ways ty = And (none_by_one next types ty) (are_led_by next types ways (gaps types ways) ty 0 (last_number ways) None)
 
 -- each live cell of the type is at one of its places, told by field
 abbrev pub reached_by_field : ℕ → List TypeEntry → List VarEntry → TypeId → Formula

@@ -1,3 +1,4 @@
+pub mod Alike
 pub mod ByField
 pub mod Conjuncts
 pub mod Going

@@ -2,12 +2,14 @@
 //! for each step.
 //!
 //! The formula of trees says it by a list of places, so under a negated quantifier its automaton tells apart which of all fields
-//! may still lead to a position: twice as many sets with each field. `specs/ByField.antt` says the same with one set a step, which
-//! finite assignments satisfy alike. Whoever decides a formula with the formula of trees in front may decide it so.
+//! may still lead to a position: twice as many sets with each field. `specs/ByField.antt` says it with one set a step, of which no
+//! position is in two that would need two variants above it. It says the same of all that lays out a backbone
+//! (`specs/Alike.antt`), so whoever decides a formula that trees alone satisfy may decide it so.
 #![tactic(auto)]
 
 mod cells;
 mod ends;
+mod gaps;
 pub mod laws;
 mod replacing;
 mod steps;

@@ -1,8 +1,9 @@
 //! One conjunct of a formula in the place of another.
 
-ghost use Rattle.std.specs.Prelude.{◌≡◌, IfOk};
+ghost use Rattle.std.specs.Prelude.{◌≡◌, IfOk, List};
 ghost use Rattle.std.specs.Bool.{OnTrue};
-ghost use Rattle.ws2s_core.specs.Satisfaction.{Same};
+ghost use Rattle.store_core.specs.Tables.{TypeEntry, VarEntry};
+ghost use Rattle.tree_reached.specs.Alike.{AlikeOnTrees};
 ghost use Rattle.tree_reached.specs.Conjuncts.{AreConjunctsOf};
 
 use plain_data::Stack;
@@ -44,8 +45,8 @@ fn replaced_one(
     old: &Formula,
     new: &Formula,
 ) -> Result<Formula, AllocError>
-    requires { Same old.now new.now }
-    ensures { IfOk result (Same conjunct.now) }
+    ensures { IfOk result (λ part. (types : List TypeEntry) (vars : List VarEntry) → AlikeOnTrees types vars old.now new.now →
+        AlikeOnTrees types vars conjunct.now part) }
 {
     if are_equal(alloc, conjunct, old)? {
         return new.copy(alloc);
@@ -53,8 +54,8 @@ fn replaced_one(
     conjunct.copy(alloc)
 }
 
-/// The formula with the new conjunct in the place of each that is the old one, which means the same. The track is bound where there
-/// are no conjuncts.
+/// The formula with the new conjunct in the place of each that is the old one. Where that one may stand for the old one on trees, the
+/// whole may stand for the formula. The track is bound where there are no conjuncts.
 pub(crate) fn replaced(
     alloc: Global,
     next: u32,
@@ -62,8 +63,8 @@ pub(crate) fn replaced(
     old: &Formula,
     new: &Formula,
 ) -> Result<Formula, AllocError>
-    requires { Same old.now new.now }
-    ensures { IfOk result (Same formula.now) }
+    ensures { IfOk result (λ whole. (types : List TypeEntry) (vars : List VarEntry) → AlikeOnTrees types vars old.now new.now →
+        AlikeOnTrees types vars formula.now whole) }
 {
     let mut conjuncts = conjuncts_of(alloc, formula)?;
     let mut parts = Vec::new(alloc);

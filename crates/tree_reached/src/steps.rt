@@ -1,10 +1,11 @@
 //! The formula that each live cell of a type is led to, step by step.
 
-ghost use Rattle.std.specs.Prelude.{◌≡◌, ◌+◌, ◌++◌, flat_map, None, IfOk, OnOk};
+ghost use Rattle.std.specs.Prelude.{◌≡◌, ◌≤◌, ◌+◌, ◌++◌, flat_map, None, IfOk, OnOk};
 ghost use Rattle.tree_reached.specs.ByField as formulas;
 ghost use Rattle.tree_reached.specs.Going as going;
 
 use crate::cells::{has, is_live};
+use crate::gaps::gaps;
 use crate::ways::{Way, last_number};
 use std::alloc::{AllocError, Global};
 use store_core::{FieldId, TypeId};
@@ -171,6 +172,62 @@ fn last_step(
     are_led(alloc, l, inner, ty, number, ways, from, None)
 }
 
+/// Which sets of earlier steps a position is in that are looked at as many steps before as one of the gaps says.
+fn push_earlier(
+    parts: &mut Vec<Formula>,
+    own: u32,
+    r: u32,
+    number: u32,
+    gaps: &[u32],
+) -> Result<(), AllocError>
+    requires { number ≤ own }
+    ensures { OnOk result (parts.new.items ≡ parts.old.items ++ flat_map (formulas.is_earlier own r number) gaps.now) }
+{
+    for gap in gaps {
+        if *gap <= number {
+            parts.push(Formula::Sub(Track(r), Track(own - *gap)))?;
+        }
+    }
+    Ok(())
+}
+
+/// No position is in the set of this step and in one of those parts' sets, if there are any.
+fn apart_from(
+    alloc: Global,
+    own: u32,
+    parts: Vec<Formula>,
+    led: Formula,
+) -> Result<Formula, AllocError>
+    ensures { IfOk result (λ formula. formula ≡ formulas.apart_from own parts.items led) }
+{
+    if parts.is_empty() {
+        return Ok(led);
+    }
+    let r = later(own, 1)?;
+    let inner = later(r, 1)?;
+    let earlier = or_list(alloc, inner, parts)?;
+    let both = Formula::and(alloc, Formula::Sub(Track(r), Track(own)), earlier)?;
+    let none = Formula::not(alloc, ex1(alloc, r, both)?)?;
+    Formula::and(alloc, led, none)
+}
+
+/// One step, whose set has no position of the sets of earlier steps that the gaps name.
+fn led_apart(
+    alloc: Global,
+    own: u32,
+    number: u32,
+    gaps: &[u32],
+    led: Formula,
+) -> Result<Formula, AllocError>
+    requires { number ≤ own }
+    ensures { IfOk result (λ formula. formula ≡ formulas.led_apart own number gaps.now led) }
+{
+    let r = later(own, 1)?;
+    let mut parts = Vec::new(alloc);
+    push_earlier(&mut parts, own, r, number, gaps)?;
+    apart_from(alloc, own, parts, led)
+}
+
 /// The step with this number, which binds its set.
 fn step(
     alloc: Global,
@@ -179,15 +236,17 @@ fn step(
     ty: TypeId,
     number: u32,
     ways: &[Way],
+    gaps: &[u32],
     rest: Formula,
 ) -> Result<Formula, AllocError>
-    ensures { IfOk result (λ formula. formula ≡ going.with_step next l.now.types ways.now ty number rest) }
+    ensures { IfOk result (λ formula. formula ≡ going.with_step next l.now.types ways.now gaps.now ty number rest) }
 {
     let own = later(next, number)?;
     let inner = later(own, 1)?;
     let from = set_before(next, number)?;
     let led = are_led(alloc, l, inner, ty, number, ways, from, Some(own))?;
-    bound(alloc, own, rest, led)
+    let apart = led_apart(alloc, own, number, gaps, led)?;
+    bound(alloc, own, rest, apart)
 }
 
 /// All steps, the sets of which are on tracks from the next one on.
@@ -197,15 +256,17 @@ fn are_led_by(
     next: u32,
     ty: TypeId,
     ways: &[Way],
+    gaps: &[u32],
 ) -> Result<Formula, AllocError>
-    ensures { IfOk result (λ formula. formula ≡ formulas.are_led_by next l.now.types ways.now ty 0 (formulas.last_number ways.now) None) }
+    ensures { IfOk result (λ formula. formula
+        ≡ formulas.are_led_by next l.now.types ways.now gaps.now ty 0 (formulas.last_number ways.now) None) }
 {
     let last = last_number(ways);
     let mut formula = last_step(alloc, l, next, ty, last, ways)?;
     let mut left = last;
     while left > 0 {
         left -= 1;
-        formula = step(alloc, l, next, ty, left, ways, formula)?;
+        formula = step(alloc, l, next, ty, left, ways, gaps, formula)?;
     }
     Ok(formula)
 }
@@ -236,6 +297,7 @@ pub(crate) fn are_led_to(
     ensures { IfOk result (λ formula. formula ≡ formulas.are_led_to next l.now.types ways.now ty) }
 {
     let none = none_by_one(alloc, l, next, ty)?;
-    let led = are_led_by(alloc, l, next, ty, ways)?;
+    let gaps = gaps(alloc, l, ways)?;
+    let led = are_led_by(alloc, l, next, ty, ways, gaps.as_slice())?;
     Formula::and(alloc, none, led)
 }

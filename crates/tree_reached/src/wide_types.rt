@@ -2,14 +2,14 @@
 
 ghost use Rattle.std.specs.Prelude.{◌≤◌, IfOk};
 ghost use Rattle.tree_encode.specs.Tracks.{track_count};
-ghost use Rattle.ws2s_core.specs.Satisfaction.{Same};
+ghost use Rattle.tree_reached.specs.Alike.{AlikeOnTrees};
 
 use crate::ends::are_at_ends;
 use crate::replacing::replaced;
 use crate::steps::are_led_to;
 use crate::ways::{Way, last_number, ways_to};
 use std::alloc::{AllocError, Global};
-use store_core::{Owner, TypeId};
+use store_core::TypeId;
 use tree_encode::Layout;
 use ws2s_core::Formula;
 
@@ -17,26 +17,9 @@ use ws2s_core::Formula;
 /// grows twice as large with each step under a negated quantifier, and with fewer steps it is small.
 pub const MANY_STEPS: u32 = 7;
 
-/// The way begins at cells of one variant alone.
-fn is_of_variant(l: &Layout<'_>, way: Way) -> bool {
-    match way.holder {
-        Some(f) => matches!(l.types().owner(f), Some(Owner::Variant(_))),
-        None => false,
-    }
-}
-
-/// The ways have many steps, and each cell of a type has all of its fields. Where variants have fields of their own, a set of a
-/// step tells apart from which of them it comes, and the formula by field is the larger one.
-fn is_wide(l: &Layout<'_>, ways: &[Way]) -> bool {
-    if last_number(ways) < MANY_STEPS {
-        return false;
-    }
-    for way in ways {
-        if is_of_variant(l, *way) {
-            return false;
-        }
-    }
-    true
+/// The ways have many steps.
+fn is_wide(ways: &[Way]) -> bool {
+    last_number(ways) >= MANY_STEPS
 }
 
 /// The track that a negated quantifier binds.
@@ -70,10 +53,10 @@ fn with_type(
     formula: Formula,
 ) -> Result<Formula, AllocError>
     requires { track_count l.now.types l.now.vars ≤ next }
-    ensures { IfOk result (Same formula) }
+    ensures { IfOk result (AlikeOnTrees l.now.types l.now.vars formula) }
 {
     let ways = ways_to(alloc, l, ty)?;
-    if !is_wide(l, ways.as_slice()) {
+    if !is_wide(ways.as_slice()) {
         return Ok(formula);
     }
     let at_ends = are_at_ends(alloc, l, next, ty, ways.as_slice())?;
@@ -89,7 +72,7 @@ fn with_types(
     formula: &Formula,
 ) -> Result<Formula, AllocError>
     requires { track_count l.now.types l.now.vars ≤ next }
-    ensures { IfOk result (Same formula.now) }
+    ensures { IfOk result (AlikeOnTrees l.now.types l.now.vars formula.now) }
 {
     let mut whole = formula.copy(alloc)?;
     for index in 0..l.types().types() {
@@ -98,15 +81,17 @@ fn with_types(
     Ok(whole)
 }
 
-/// A formula that means the same as this one: where it has the formula of the layout's trees in front, that each live cell of a
-/// type with many fields is at one of its places is told by field in it. It is the formula itself where no type has many, and
-/// else its automata are much smaller, since the sets of the steps take the place of all sets of fields.
+/// A formula that may stand for this one on the trees of stores: all finite sets that satisfy it satisfy this one, and of those
+/// that lay out a backbone the other way round. Where this one has the formula of the layout's trees in front, it has that each
+/// live cell of a type with many fields is at one of its places told by field. It is the formula itself where no type has many,
+/// and else its automata are much smaller: the sets of the steps take the place of all sets of fields, and none of them has a
+/// position of one for which another variant would have to stand above it.
 ///
 /// # Errors
 ///
 /// Want of memory, also where there are not as many tracks.
 pub fn by_fields(alloc: Global, l: &Layout<'_>, formula: &Formula) -> Result<Formula, AllocError>
-    ensures { IfOk result (Same formula.now) }
+    ensures { IfOk result (AlikeOnTrees l.now.types l.now.vars formula.now) }
 {
     match first_bound(formula) {
         Some(next) if next >= l.tracks() => with_types(alloc, l, next, formula),

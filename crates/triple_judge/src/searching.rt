@@ -5,6 +5,7 @@ ghost use Rattle.bdd_nodes.specs.Shelf.{limit_of};
 ghost use Rattle.gta_keep.specs.Holding.{HasNoTables};
 ghost use Rattle.ws2s_core.specs.declared.track.Track.{Track};
 ghost use Rattle.ws2s_core.specs.declared.formula.Formula.{Formula};
+ghost use Rattle.store_core.specs.Tables.{IsTypeTable};
 ghost use Rattle.ws2s_decide.specs.declared.verdict.Verdict.{Verdict};
 ghost use Rattle.ws2s_decide.specs.Deciding.{guide_of, HasKept};
 ghost use Rattle.tree_encode.specs.Spaces as spaces;
@@ -113,6 +114,7 @@ fn decide_in_order(
     shelf: &mut Shelf,
 ) -> Result<Searched, AllocError>
     requires kept { HasKept shelf.old decider.old }
+    requires table { IsTypeTable l.now.types }
     requires holds { HoldsOfTrees l.now.types l.now.vars of_trees.now }
     ensures value { IfOk result (IsSearched (site_formula l.now.types l.now.vars t.now) tracks.now count) }
     ensures limit { result ≡ Ok Searched.Limit → (p : ℕ) →
@@ -146,7 +148,8 @@ pub(crate) fn decide_sites(
     tracks: &TrackList,
     shelf: &mut Shelf,
 ) -> Result<Searched, AllocError>
-    requires { HasNoTables shelf.old }
+    requires tables { HasNoTables shelf.old }
+    requires table { IsTypeTable l.now.types }
     ensures value { IfOk result (IsSearched (site_formula l.now.types l.now.vars t.now) tracks.now count) }
     ensures limit { result ≡ Ok Searched.Limit → (p : ℕ) →
         ArePeaksWithin (spaces.guide_of l.now.types l.now.vars l.now.spares) (site_formula l.now.types l.now.vars t.now) p → limit_of shelf.old < p }

@@ -2,6 +2,7 @@
 
 ghost use Rattle.std.specs.Prelude.{◌≡◌, ◌<◌, ℕ, Ok, IfOk};
 ghost use Rattle.bdd_nodes.specs.Shelf.{limit_of};
+ghost use Rattle.store_core.specs.Tables.{IsTypeTable};
 ghost use Rattle.ws2s_decide.specs.declared.verdict.Verdict.{Verdict};
 ghost use Rattle.ws2s_decide.specs.Deciding.{guide_of, HasKept};
 ghost use Rattle.tree_apart.specs.Apart.{HoldsOfTrees};
@@ -38,6 +39,7 @@ pub(crate) fn verdict_at(
     shelf: &mut Shelf,
 ) -> Result<Verdict, AllocError>
     requires kept { HasKept shelf.old decider.old }
+    requires table { IsTypeTable l.now.types }
     requires holds { HoldsOfTrees l.now.types l.now.vars of_trees.now }
     ensures value { IfOk result (IsVerdictAt (site_formula l.now.types l.now.vars t.now) tracks.now site) }
     ensures limit { result ≡ Ok Verdict.Limit → (p : ℕ) →

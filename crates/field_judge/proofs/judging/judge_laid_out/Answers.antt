@@ -8,7 +8,7 @@ use Rattle.store_core.specs.declared.ids.VariantId.{VariantId}
 use Rattle.store_core.specs.Tables.{VarEntry}
 use Rattle.tree_encode.specs.Spaces.{guide_of}
 use Rattle.field_judge.specs.OneEach.{type_vars}
-use Rattle.field_judge.proofs.KnownLemmas.{follows-field}
+use Rattle.field_judge.proofs.KnownLemmas.{follows-field, field-lays-out}
 use Rattle.field_judge.proofs.LightestLemmas.{lightest-from, functional-from, formula-is}
 use Rattle.field_judge.proofs.judging.judge_laid_out.Goals as goal
 
@@ -16,6 +16,10 @@ pub verdict_alone-requires-clause-follows : goal.verdict_alone-requires-clause-f
 verdict_alone-requires-clause-follows g c =
     follows-field c.args.l.now.types c.args.l.now.vars c.args.f c.in_ok-formula.formula c.in_ok-known.known c.in_ok-known.ensures.holds
     c.in_ok-formula.ensures.value
+
+pub verdict_alone-requires-clause-trees : goal.verdict_alone-requires-clause-trees
+verdict_alone-requires-clause-trees g c =
+    field-lays-out c.args.l.now.types c.args.l.now.vars c.args.f c.in_ok-formula.formula c.in_ok-tracks.ensures.inside c.in_ok-formula.ensures.value
 
 pub fork_of-requires-clause-lightest : goal.fork_of-requires-clause-lightest
 fork_of-requires-clause-lightest g c =

@@ -7,7 +7,7 @@ use Rattle.tree_reached.proofs.steps.are_led_by.Given as goal
 abbrev pub invariant-loop-left : goal.invariant-loop-left
 invariant-loop-left l = record {
   within : l.left ≤ last_number l.ways;
-  built : l.formula ≡ are_led_by (l.fn.next + l.left) l.l.types l.ways l.fn.ty l.left (last_number l.ways - l.left) (set_before l.fn.next l.left);
+  built : l.formula ≡ are_led_by (l.fn.next + l.left) l.l.types l.ways l.gaps l.fn.ty l.left (last_number l.ways - l.left) (set_before l.fn.next l.left);
 }
 
 abbrev pub decreases-loop-left : goal.decreases-loop-left

@@ -5,7 +5,7 @@ use Rattle.triple_judge.specs.Judging.{ArePeaksWithin}
 use Rattle.triple_judge.proofs.searching.decide_sites.Goals as goal
 
 pub decide_in_order-searched-requires-clause-kept : goal.decide_in_order-searched-requires-clause-kept
-decide_in_order-searched-requires-clause-kept g c = c.in_ok-decider.ensures.kept c.args.shelf.now c.requires
+decide_in_order-searched-requires-clause-kept g c = c.in_ok-decider.ensures.kept c.args.shelf.now c.requires.tables
 
 pub returns-clause-limit : goal.returns-clause-limit
 returns-clause-limit g c = λ at_limit p peaks.
