@@ -93,8 +93,9 @@ pub fn verdict_on(
     }
 }
 
-/// The verdict on a formula that trees of the layout's stores alone satisfy, under the layout's guide, by a decider for this formula alone, which tries easier ones
-/// under the first guide: one in which types of many fields are told by field, and with what is known in front.
+/// The verdict on a formula that trees of the layout's stores alone satisfy, under the layout's guide, by a decider for this
+/// formula alone, which tries easier ones under the first guide: one in which types of many fields are told by field, and with what
+/// is known in front.
 ///
 /// # Errors
 ///

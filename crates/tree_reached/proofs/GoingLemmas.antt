@@ -32,7 +32,8 @@ module _ (types : List TypeEntry) (ws : List Way) (gaps : List ℕ) (ty : TypeId
       let further : next + suc m ≡ suc (next + m) = omega arith in
       let count : suc (last - suc m) ≡ last - m = omega (arith, is, few) in
       outer
-      ∙ ap (λ (g : Formula). Ex2 (track (next + m)) (And g (led_apart (next + m) m gaps (are_led (suc (next + m)) types ws ty m (set_before next m) (Some (next + m))))))
+      ∙ ap (λ (g : Formula). Ex2 (track (next + m))
+      (And g (led_apart (next + m) m gaps (are_led (suc (next + m)) types ws ty m (set_before next m) (Some (next + m))))))
       (inside ∙ ap (λ (n : ℕ). are_led_by n types ws gaps ty (suc m) (last - suc m) (Some (next + m))) further)
       ∙ ap (λ (n : ℕ). are_led_by (next + m) types ws gaps ty m n (set_before next m)) count
 

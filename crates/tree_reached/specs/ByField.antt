@@ -1,7 +1,8 @@
 -- Where cells of a type may stand, told by field: each cell by its parent's field, one step by 1 after the other. (Klarlund and
 -- Schwartzbach 1993: the well-formed labelings of a tree; the child number k of a cell r is at r 1^k 0. The chain of sets, one
 -- for each step, is own.)
-use Rattle.std.specs.Prelude.{ℕ, zero, suc, ◌==◌, ◌&&◌, ◌+◌, ◌-◌, nat_le, max, Bool, true, false, List, [], ◌∷◌, ◌++◌, flat_map, map, fold, Option, Some, None, if◌then◌else◌}
+use Rattle.std.specs.Prelude.{ℕ, zero, suc, ◌==◌, ◌+◌, ◌-◌, nat_le, max, Bool, true, false, ◌&&◌, if◌then◌else◌}
+use Rattle.std.specs.Prelude.{List, [], ◌∷◌, ◌++◌, flat_map, map, fold, Option, Some, None}
 use Rattle.std.specs.Option.{option_map, option_map_or}
 use Rattle.std.specs.List.{list_any}
 use Rattle.ws2s_core.specs.declared.formula.Formula.{Formula}
