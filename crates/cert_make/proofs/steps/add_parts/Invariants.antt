@@ -1,0 +1,10 @@
+use Rattle.std.proofs.Common.{◌≡◌, []}
+use Rattle.bdd_nodes.specs.Shelf.{limit_of}
+use Rattle.cert_make.specs.Holding.{HoldsKept}
+use Rattle.cert_make.proofs.steps.add_parts.Given as goal
+
+abbrev pub invariant-loop-number : goal.invariant-loop-number
+invariant-loop-number l = record {
+  holds : HoldsKept l.g l.shelf [] l.kept;
+  limit : limit_of l.shelf ≡ limit_of l.fn.shelf;
+}
