@@ -7,7 +7,7 @@ pub copy_of-requires : goal.copy_of-requires
 copy_of-requires c = (c.requires.0, beside-waiting c.requires.0 c.args.shelf.now [] c.args.kept.now c.requires.1)
 
 pub returns-in_err-b-clause-err : goal.returns-in_err-b-clause-err
-returns-in_err-b-clause-err c = λ g holds. (c.in_err-b.ensures.err g).holds [] holds
+returns-in_err-b-clause-err c = on_err _ c.from_residual.result (λ g holds. (c.in_err-b.ensures.err g).holds [] holds)
 
 pub returns-in_err-b-clause-same_limit : goal.returns-in_err-b-clause-same_limit
 returns-in_err-b-clause-same_limit c = (c.in_err-b.ensures.err c.requires.0).limit
