@@ -1,13 +1,14 @@
 //! The formula that a line asks for, behind its `?`.
 
 use crate::lines::{Stop, field_at, number_at, sym_at, variant_at, word_at};
-use crate::programs::{program_of, route_in, walking};
+use crate::programs::{route_in, walking_program};
 use graph_cells::{has, is_dead, is_live, is_null};
 use graph_routes::{
     bool_formula, field_formula, live_formula, step_formula, variant_formula, walk_formula,
 };
 use graph_type::{closes, cut_formula};
 use graph_view::{CutCheck, View};
+use pale_typed::Typed;
 use std::alloc::{AllocError, Global};
 use store_core::FieldId;
 use tree_encode::Layout;
@@ -46,6 +47,23 @@ fn of_field(
     }
 }
 
+/// What a line says of a walk along the route of a program.
+fn walk_in(
+    alloc: Global,
+    l: &Layout<'_>,
+    typed: &Typed,
+    view: &View,
+    line: &str,
+) -> Result<Formula, Stop> {
+    let Some(route) = route_in(typed) else {
+        return Err(Stop);
+    };
+    let (from, to) = (Track(number_at(line, 4)), Track(number_at(line, 5)));
+    let pointers = word_at(line, 3) == "all";
+    let next = number_at(line, 6);
+    Ok(walk_formula(alloc, l, view, route, pointers, from, to, next)?)
+}
+
 /// `walk ROUTE data A B NEXT` or, over pointer fields too, `walk ROUTE all A B NEXT`.
 fn walk(
     alloc: Global,
@@ -54,22 +72,8 @@ fn walk(
     view: &View,
     line: &str,
 ) -> Result<Formula, Stop> {
-    let text = walking(alloc, l.types(), program, word_at(line, 2))?;
-    let typed = program_of(alloc, &text)?;
-    let route = route_in(&typed).ok_or(Stop)?;
-    let from = Track(number_at(line, 4));
-    let to = Track(number_at(line, 5));
-    let pointers = word_at(line, 3) == "all";
-    Ok(walk_formula(
-        alloc,
-        l,
-        view,
-        route,
-        pointers,
-        from,
-        to,
-        number_at(line, 6),
-    )?)
+    let typed = walking_program(alloc, l.types(), program, word_at(line, 2))?;
+    walk_in(alloc, l, &typed, view, line)
 }
 
 /// `live A NEXT`, `null VALUE`, `dead VALUE`, `trees`, or `closed SET VALUE NEXT`: the set has the value and what data fields

@@ -4,10 +4,11 @@ use crate::asked::formula_of;
 use crate::lines::{Stop, number_at, word_at};
 use crate::places::{Set, at_place, holds, put};
 use crate::spelling::{push_number, spell};
-use crate::views::{mark_all, places_of, view_of};
+use crate::views::{add_places, first_view, look_at_all, mark_all};
 use graph_view::View;
+use plain_data::Items;
 use plain_writer::Writer;
-use std::alloc::Global;
+use std::alloc::{AllocError, Global};
 use tree_encode::Layout;
 use ws2s_core::{Formula, Track};
 
@@ -83,42 +84,95 @@ fn write_asked(out: &mut Writer, f: &Formula, line: &str, places: &[u32], sets: 
     out.push(b'\n');
 }
 
-/// Writes what each line asks for that begins with `? `.
-fn write_all_asked(
+/// A program, and the scene of all views with its positions.
+#[derive(Clone, Copy)]
+struct Scene<'a> {
+    program: &'a str,
+    text: &'a str,
+    places: &'a [u32],
+}
+
+/// Writes what a line asks for.
+fn write_line(
     alloc: Global,
     l: &Layout<'_>,
-    program: &str,
+    scene: Scene<'_>,
+    view: &View,
+    line: &str,
+    sets: &mut [Set],
+    out: &mut Writer,
+) -> Result<(), Stop> {
+    let formula = formula_of(alloc, l, scene.program, view, line)?;
+    write_asked(out, &formula, line, scene.places, sets);
+    Ok(())
+}
+
+/// Writes what each line asks for that begins with `? `.
+fn write_lines(
+    alloc: Global,
+    l: &Layout<'_>,
+    scene: Scene<'_>,
     view: &View,
     text: &str,
-    places: &[u32],
     sets: &mut [Set],
     out: &mut Writer,
 ) -> Result<(), Stop> {
     for line in text.lines() {
         if line.starts_with("? ") {
-            let formula = formula_of(alloc, l, program, view, line)?;
-            write_asked(out, &formula, line, places, sets);
+            write_line(alloc, l, scene, view, line, sets, out)?;
         }
     }
     Ok(())
 }
 
 /// Writes what a view gives: its own formulas, and those that stand with the scene.
+fn write_seen(
+    alloc: Global,
+    l: &Layout<'_>,
+    scene: Scene<'_>,
+    view: &mut View,
+    text: &str,
+    out: &mut Writer,
+) -> Result<(), Stop> {
+    look_at_all(l, view, text)?;
+    let mut sets = [0; TRACKS];
+    mark_all(scene.places, scene.text, &mut sets);
+    out.push_all(b"view\n");
+    write_lines(alloc, l, scene, view, text, &mut sets, out)?;
+    write_lines(alloc, l, scene, view, scene.text, &mut sets, out)
+}
+
+/// Writes what a view of these lines gives.
 fn write_view(
     alloc: Global,
     l: &Layout<'_>,
-    program: &str,
-    scene: &str,
+    scene: Scene<'_>,
     text: &str,
-    places: &[u32],
     out: &mut Writer,
 ) -> Result<(), Stop> {
-    let view = view_of(alloc, l, text)?;
-    let mut sets = [0; TRACKS];
-    mark_all(places, scene, &mut sets);
-    out.push_all(b"view\n");
-    write_all_asked(alloc, l, program, &view, text, places, &mut sets, out)?;
-    write_all_asked(alloc, l, program, &view, scene, places, &mut sets, out)
+    let mut view = first_view(alloc);
+    write_seen(alloc, l, scene, &mut view, text, out)
+}
+
+/// Writes what each view gives.
+fn write_each(
+    alloc: Global,
+    l: &Layout<'_>,
+    scene: Scene<'_>,
+    views: &str,
+    out: &mut Writer,
+) -> Result<(), Stop> {
+    for text in views.split("\n\n") {
+        write_view(alloc, l, scene, text, out)?;
+    }
+    Ok(())
+}
+
+/// The positions of a scene.
+fn places_of(alloc: Global, scene: &str) -> Result<Items<u32>, AllocError> {
+    let mut places = Items::new(alloc);
+    add_places(&mut places, scene)?;
+    Ok(places)
 }
 
 /// Writes what a scene and the views behind it ask for.
@@ -131,8 +185,10 @@ pub(crate) fn write_views(
 ) -> Result<(), Stop> {
     let (scene, views) = rest.split_once("\n\n").unwrap_or((rest, ""));
     let places = places_of(alloc, scene)?;
-    for text in views.split("\n\n") {
-        write_view(alloc, l, program, scene, text, places.as_slice(), out)?;
-    }
-    Ok(())
+    let scene = Scene {
+        program,
+        text: scene,
+        places: places.as_slice(),
+    };
+    write_each(alloc, l, scene, views, out)
 }

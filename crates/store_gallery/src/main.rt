@@ -35,7 +35,6 @@ const MOST_BYTES: usize = 16_777_216;
 
 fn main(rt: HostRuntime) -> Result<()> {
     let mut source = StdSource::new(rt.stdin());
-    let mut sink = StdSink::new(rt.stdout());
     let bundle = read_all(rt.alloc(), &mut source, MOST_BYTES)?;
-    show_texts(rt.alloc(), str::from_utf8(&bundle)?, &mut sink)
+    show_texts(rt.alloc(), &bundle, &mut StdSink::new(rt.stdout()))
 }

@@ -65,16 +65,54 @@ fn write_node(out: &mut Writer, node: &TreeNode, number: u64) {
     }
 }
 
+/// Writes the nodes that have tracks, each with its position.
+fn write_nodes(nodes: &[TreeNode], positions: &[u64], out: &mut Writer) {
+    out.push_all(b"tree");
+    for (node, number) in nodes.iter().zip(positions.iter()) {
+        write_node(out, node, *number);
+    }
+    out.push(b'\n');
+}
+
 /// Writes the positions of a tree that have tracks, the root last, each with its tracks.
 fn write_tree(alloc: Global, nodes: &[TreeNode], out: &mut Writer) -> Result<(), AllocError> {
     let positions = positions_of(alloc, nodes)?;
-    out.push_all(b"tree");
-    for k in 0..nodes.len() {
-        if let (Some(node), Some(number)) = (nodes.get(k), positions.get(k)) {
-            write_node(out, node, *number);
-        }
-    }
-    out.push(b'\n');
+    write_nodes(nodes, &positions, out);
+    Ok(())
+}
+
+/// Writes the tree of a store.
+fn write_encoded(
+    alloc: Global,
+    l: &Layout<'_>,
+    store: &Store,
+    out: &mut Writer,
+) -> Result<(), AllocError> {
+    let tree = encode(alloc, l, store)?;
+    write_tree(alloc, tree.nodes(), out)
+}
+
+/// The store that is read off the tree of a well-formed one.
+fn back_from_tree(alloc: Global, l: &Layout<'_>, store: &Store) -> Result<Store, AllocError>
+    requires { IsWellFormed l.now.types l.now.vars store.now }
+    ensures { IfOk result (Fits l.now.types l.now.vars) }
+{
+    let tree = encode(alloc, l, store)?;
+    let back = decode(alloc, l, &tree)?;
+    Ok(back)
+}
+
+/// Writes a store as a text.
+fn write_plainly(
+    alloc: Global,
+    l: &Layout<'_>,
+    store: &Store,
+    out: &mut Writer,
+) -> Result<(), AllocError>
+    requires { Fits l.now.types l.now.vars store.now }
+{
+    let text = store_text(alloc, l.types(), l.vars(), store)?;
+    out.push_all(&text);
     Ok(())
 }
 
@@ -87,26 +125,17 @@ fn write_back(
 ) -> Result<(), AllocError>
     requires { IsWellFormed l.now.types l.now.vars store.now }
 {
-    let tree = encode(alloc, l, store)?;
-    let back = decode(alloc, l, &tree)?;
-    let text = store_text(alloc, l.types(), l.vars(), &back)?;
-    out.push_all(&text);
-    Ok(())
+    let back = back_from_tree(alloc, l, store)?;
+    write_plainly(alloc, l, &back, out)
 }
 
 /// Writes the tree of a store, and where it is well-formed the store that is read off it.
-fn write_store(
-    alloc: Global,
-    l: &Layout<'_>,
-    store: &Store,
-    out: &mut Writer,
-) -> Result<(), AllocError>
+fn write_store(alloc: Global, l: &Layout<'_>, store: &Store, out: &mut Writer) -> Result<(), Stop>
     requires { Fits l.now.types l.now.vars store.now }
 {
-    let tree = encode(alloc, l, store)?;
-    write_tree(alloc, tree.nodes(), out)?;
+    write_encoded(alloc, l, store, out)?;
     match well_formed(alloc, l.types(), l.vars(), store)? {
-        None => write_back(alloc, l, store, out),
+        None => Ok(write_back(alloc, l, store, out)?),
         Some(_) => {
             out.push_all(b"no well-formed store\n");
             Ok(())
@@ -128,6 +157,12 @@ fn store_of(alloc: Global, l: &Layout<'_>, text: &[u8]) -> Result<Store, Stop>
     }
 }
 
+/// Writes the tree of a text's store, and the store that comes back.
+fn write_text(alloc: Global, l: &Layout<'_>, text: &str, out: &mut Writer) -> Result<(), Stop> {
+    let store = store_of(alloc, l, text.as_bytes())?;
+    write_store(alloc, l, &store, out)
+}
+
 /// Writes the layout, and for each store its tree and the store that comes back.
 pub(crate) fn write_stores(
     alloc: Global,
@@ -137,8 +172,7 @@ pub(crate) fn write_stores(
 ) -> Result<(), Stop> {
     write_layout(alloc, l, out)?;
     for text in texts.split_terminator("\n\n") {
-        let store = store_of(alloc, l, text.as_bytes())?;
-        write_store(alloc, l, &store, out)?;
+        write_text(alloc, l, text, out)?;
     }
     Ok(())
 }

@@ -50,28 +50,31 @@ fn look_at(l: &Layout<'_>, view: &mut View, line: &str) -> Result<(), Stop> {
     Ok(())
 }
 
-/// The view of lines.
-pub(crate) fn view_of(alloc: Global, l: &Layout<'_>, text: &str) -> Result<View, Stop> {
-    let mut view = View {
+/// A view of a store before any event.
+pub(crate) fn first_view(alloc: Global) -> View {
+    View {
         vars: SymList::new(alloc),
         events: EventList::new(alloc),
         region: None,
         next: 0,
-    };
-    for line in text.lines() {
-        look_at(l, &mut view, line)?;
     }
-    Ok(view)
 }
 
-/// The positions of the line of a scene that begins with `places`, by their numbers.
-pub(crate) fn places_of(alloc: Global, scene: &str) -> Result<Items<u32>, AllocError> {
+/// Puts what lines say into the view.
+pub(crate) fn look_at_all(l: &Layout<'_>, view: &mut View, text: &str) -> Result<(), Stop> {
+    for line in text.lines() {
+        look_at(l, view, line)?;
+    }
+    Ok(())
+}
+
+/// Puts the positions of the line of a scene that begins with `places` into the list, by their numbers.
+pub(crate) fn add_places(places: &mut Items<u32>, scene: &str) -> Result<(), AllocError> {
     let (_, rest) = scene.split_once("\nplaces ").unwrap_or((scene, ""));
-    let mut places = Items::new(alloc);
     for word in rest.lines().next().unwrap_or("").split_whitespace() {
         places.push(number_at(word, 0))?;
     }
-    Ok(places)
+    Ok(())
 }
 
 /// Puts the positions of a line, as `mark 3 14`, onto its track.

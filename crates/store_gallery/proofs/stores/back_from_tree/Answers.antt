@@ -1,6 +1,6 @@
 use Rattle.ws2s_core.specs.LabelTrees.{assignment_of}
 use Rattle.tree_store.proofs.HoldersLemmas.{backbone-lays}
-use Rattle.store_gallery.proofs.stores.write_back.Goals as goal
+use Rattle.store_gallery.proofs.stores.back_from_tree.Goals as goal
 
 pub decode-requires : goal.decode-requires
 decode-requires c =
