@@ -4,7 +4,8 @@ ghost use Rattle.std.specs.Prelude.{◌≡◌, ◌+◌, ◌<◌, [], length, IfO
 ghost use Rattle.store_logic.specs.Uses.{CanExpand};
 ghost use Rattle.store_tests.specs.Chains.{IsLink};
 
-use crate::programs::{SHORT, program_of, store_of, vars_of};
+use crate::programs::{NONE, SHORT};
+use crate::questions::{Question, answers};
 use plain_data::Boxed;
 use std::alloc::{AllocError, Global};
 use std::test::Fail;
@@ -12,9 +13,6 @@ use store_core::{Store, TypeTable};
 use store_expand::{ExpandFault, SizedPreds, expand};
 use store_logic::{ArgList, Assertion, PredDef, Preds, Region};
 use store_sat::sat;
-
-/// A store without cells.
-const NONE: &str = "store\nvar x null\nvar b false\nvar S {}\nend\n";
 
 /// The use of a predicate without arguments.
 fn used(alloc: Global, k: u32) -> Assertion
@@ -77,34 +75,51 @@ fn nots(assertion: &Assertion) -> u32 {
     count
 }
 
+/// The negation of a copy of the assertion.
+fn negation(alloc: Global, assertion: &Assertion) -> Result<Assertion, AllocError> {
+    let copy = assertion.copy(alloc)?;
+    Ok(Assertion::Not(Boxed::new(alloc, copy)?))
+}
+
+/// Whether the store satisfies the negation of a copy of the assertion.
+fn is_negation_true(
+    alloc: Global,
+    types: &TypeTable,
+    store: &Store,
+    assertion: &Assertion,
+) -> Result<bool, AllocError> {
+    let negated = negation(alloc, assertion)?;
+    sat(alloc, types, store, &Region::All, &negated)
+}
+
 /// Whether the store satisfies the assertion, and whether it satisfies the negation of a copy.
-fn judged(
+pub(crate) fn judged(
     alloc: Global,
     types: &TypeTable,
     store: &Store,
     assertion: &Assertion,
 ) -> Result<(bool, bool), AllocError> {
     let truth = sat(alloc, types, store, &Region::All, assertion)?;
-    let negated = Assertion::Not(Boxed::new(alloc, assertion.copy(alloc)?)?);
-    let other = sat(alloc, types, store, &Region::All, &negated)?;
-    Ok((truth, other))
+    Ok((truth, is_negation_true(alloc, types, store, assertion)?))
 }
 
-/// The same on a store without cells.
-fn judged_on_none(alloc: Global, assertion: &Assertion) -> Result<(bool, bool), Fail> {
-    let typed = program_of(alloc, SHORT, "true")?;
-    let store = store_of(alloc, typed.types(), vars_of(&typed)?, NONE)?;
-    Ok(judged(alloc, typed.types(), &store, assertion)?)
+/// Whether an assertion of the most nodes is judged on a store without cells.
+fn is_judged(alloc: Global, deepest: &Assertion) -> Result<bool, Fail> {
+    let question = Question::Both(deepest, (false, true));
+    Ok(nots(deepest) == 65_535 && answers(alloc, SHORT, "true", NONE, question)?)
+}
+
+/// Whether the most nodes are put in and judged.
+fn are_most_judged(alloc: Global) -> Result<bool, Fail> {
+    let deepest = expanded(alloc, 65_535, false)?;
+    is_judged(alloc, &deepest)
 }
 
 #[test]
 fn the_most_nodes_are_put_in_judged_and_copied(rt: HostRuntime) -> Result<(), Fail> {
-    let alloc = rt.alloc();
-    let deepest = expanded(alloc, 65_535, false)?;
-    assert!(rt; nots(&deepest) == 65_535);
-    assert!(rt; judged_on_none(alloc, &deepest)? == (false, true));
-    assert!(rt; is_too_big(alloc, 65_536, false));
-    assert!(rt; is_too_big(alloc, 39, true), "bodies that double");
+    assert!(rt; are_most_judged(rt.alloc())?);
+    assert!(rt; is_too_big(rt.alloc(), 65_536, false));
+    assert!(rt; is_too_big(rt.alloc(), 39, true), "bodies that double");
     Ok(())
 }
 
@@ -118,13 +133,28 @@ fn with_sizes(alloc: Global, preds: Preds) -> Result<SizedPreds, AllocError>
     Ok(sized)
 }
 
-/// Whether the last of so many predicates, each of which uses the one before twice, is too big by the sizes that are kept, and
-/// whether it is put in.
+/// The predicates of a chain whose bodies double, with their sizes.
+fn sized_chain(alloc: Global, more: u32) -> Result<SizedPreds, AllocError>
+    ensures { IfOk result (λ sized. CanExpand sized (Assertion.Pred more [])) }
+{
+    let preds = chain(alloc, more, true)?;
+    let sized = with_sizes(alloc, preds)?;
+    Ok(sized)
+}
+
+/// Whether an assertion is too big by the sizes that are kept, and whether it is put in.
+fn told_by(alloc: Global, sized: &SizedPreds, last: &Assertion) -> Result<(bool, bool), AllocError>
+    requires { CanExpand sized.now last.now }
+{
+    let is_big = sized.is_too_big(alloc, last)?;
+    Ok((is_big, sized.expand(alloc, last).is_ok()))
+}
+
+/// The same of the last of so many predicates, each of which uses the one before twice.
 fn sized(alloc: Global, more: u32) -> Result<(bool, bool), AllocError> {
-    let sized = with_sizes(alloc, chain(alloc, more, true)?)?;
+    let sized = sized_chain(alloc, more)?;
     let last = used(alloc, more);
-    let is_big = sized.is_too_big(alloc, &last)?;
-    Ok((is_big, sized.expand(alloc, &last).is_ok()))
+    told_by(alloc, &sized, &last)
 }
 
 #[test]

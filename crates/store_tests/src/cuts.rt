@@ -5,19 +5,18 @@ ghost use Rattle.store_core.specs.Stores.{Fits};
 
 mod stores;
 
-use crate::programs::{pre_of, program_of, store_of, vars_of};
+use crate::questions::{Question, answers};
 use crate::walks::lists;
 use routing_expr::{Followed, cut_fault, ends_on, reached, store_on};
 use routing_walks::CutFault;
 use std::alloc::{AllocError, Global};
 use std::test::Fail;
-use store_core::{CellId, Route, Store, TypeTable, Value, VarId, VarTable};
+use store_core::{CellId, CellList, Route, Store, TypeTable, Value, VarId, VarTable};
 use store_logic::Assertion;
 use stores::{STORES, VARS};
 
-/// A store, and what is said of it.
-struct Case {
-    text: &'static str,
+/// What is said of a store.
+pub(crate) struct Cut {
     fault: Option<CutFault>,
     /// The cells reached from `x`.
     reached: &'static str,
@@ -27,60 +26,78 @@ struct Case {
     ends: &'static str,
 }
 
-/// Whether the first condition that is broken, and the cells reached from `x`, are those of the case.
-fn is_cut(
+/// Whether the cells reached from `x` are those.
+fn is_reached(
     alloc: Global,
     types: &TypeTable,
     vars: &VarTable,
     store: &Store,
-    case: &Case,
-) -> Result<bool, AllocError>
-    requires { Fits types.now vars.now store.now }
-{
-    let fault = cut_fault(alloc, types, vars, store)?;
+    wanted: &str,
+) -> Result<bool, AllocError> {
     let from_x = reached(alloc, types, vars, store, &[VarId(0)])?;
-    Ok(fault == case.fault && lists(&from_x, case.reached))
+    Ok(lists(&from_x, wanted))
 }
 
-/// Whether the store and the walks on `S` are those of the case.
+/// How many cells the store on these has.
+fn live_on(alloc: Global, store: &Store, cells: &CellList) -> Result<usize, AllocError> {
+    let on = store_on(alloc, store, cells)?;
+    Ok(on.cells())
+}
+
+/// Whether the route leads from the cell 1 to those, on these cells.
+fn leads_on(
+    alloc: Global,
+    types: &TypeTable,
+    store: &Store,
+    cells: &CellList,
+    route: &Route,
+    wanted: &str,
+) -> Result<bool, AllocError> {
+    let found = ends_on(alloc, types, store, cells, route, Followed::Data, CellId(1))?;
+    Ok(lists(&found, wanted))
+}
+
+/// Whether the store and the walk on `S` are as it is said.
 fn is_on_set(
     alloc: Global,
     types: &TypeTable,
+    pre: &Assertion,
     store: &Store,
-    route: &Route,
-    case: &Case,
+    cut: &Cut,
 ) -> Result<bool, AllocError> {
-    let Some(Value::Cells(cells)) = store.var(VarId(2)) else {
+    let (Some(Value::Cells(cells)), Assertion::Walk(_, route, _)) = (store.var(VarId(2)), pre)
+    else {
         return Ok(false);
     };
-    let live = store_on(alloc, store, cells)?.cells();
-    let ends = ends_on(alloc, types, store, cells, route, Followed::Data, CellId(1))?;
-    Ok(live == case.live && lists(&ends, case.ends))
+    Ok(
+        live_on(alloc, store, cells)? == cut.live
+            && leads_on(alloc, types, store, cells, route, cut.ends)?,
+    )
 }
 
-/// Whether what the case says is so. The route is `next*`.
-fn is_so(
+/// Whether what is said is so. The precondition walks `next*`.
+pub(crate) fn is_cut(
     alloc: Global,
     types: &TypeTable,
     vars: &VarTable,
-    route: &Route,
-    case: &Case,
-) -> Result<bool, Fail> {
-    let store = store_of(alloc, types, vars, case.text)?;
-    let is_cut = is_cut(alloc, types, vars, &store, case)?;
-    Ok(is_cut && is_on_set(alloc, types, &store, route, case)?)
+    pre: &Assertion,
+    store: &Store,
+    cut: &Cut,
+) -> Result<bool, AllocError>
+    requires { Fits types.now vars.now store.now }
+{
+    Ok(
+        cut_fault(alloc, types, vars, store)? == cut.fault
+            && is_reached(alloc, types, vars, store, cut.reached)?
+            && is_on_set(alloc, types, pre, store, cut)?,
+    )
 }
 
 #[test]
 fn cuts_parts_and_sets_of_cells_are_judged(rt: HostRuntime) -> Result<(), Fail> {
-    let typed = program_of(rt.alloc(), VARS, "x<next*>y")?;
-    let vars = vars_of(&typed)?;
-    let Some(Assertion::Walk(_, route, _)) = pre_of(&typed) else {
-        return Err("no walk".into());
-    };
-    for case in STORES {
-        let is_so = is_so(rt.alloc(), typed.types(), vars, route, case)?;
-        assert!(rt; is_so, "{}", case.text);
+    for (text, cut) in STORES {
+        let is_so = answers(rt.alloc(), VARS, "x<next*>y", text, Question::Cut(cut))?;
+        assert!(rt; is_so, "{text}");
     }
     Ok(())
 }

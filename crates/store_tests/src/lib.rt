@@ -10,6 +10,8 @@ mod cuts;
 #[cfg(test)]
 mod programs;
 #[cfg(test)]
+mod questions;
+#[cfg(test)]
 mod regions;
 #[cfg(test)]
 mod routes;

@@ -4,27 +4,22 @@ ghost use Rattle.std.specs.Prelude.{◌<◌, length, IfOk};
 ghost use Rattle.store_core.specs.Stores.{Fits};
 
 use pale_parse::parse;
+use pale_syntax::Program;
 use pale_text::{TextStop, lex};
 use pale_typed::Typed;
 use pale_types::check_types;
 use plain_writer::Writer;
 use std::alloc::{AllocError, Global};
 use std::test::Fail;
-use store_core::{Store, TypeId, TypeTable, VarTable, VariantId};
+use store_core::{Store, TypeTable, VarTable};
 use store_logic::Assertion;
-use store_text::{read_store, read_stores_fit, store_text};
+use store_text::{read_store, read_stores_fit};
 
-/// The types of all tests.
-const TYPES: &[u8] = b"type Node = { data next: Node; pointer prev: Node [^]; bool mark; }
+/// The types of most tests.
+pub(crate) const TYPES: &[u8] =
+    b"type Node = { data next: Node; pointer prev: Node [^]; bool mark; }
 type Tree = { pointer up: Tree [^]; } | leaf { bool ripe; } | node { data left: Tree; data right: Tree; bool red; }
 ";
-
-pub(crate) const NODE: TypeId = TypeId(0);
-
-pub(crate) const LEAF: VariantId = VariantId {
-    ty: TypeId(1),
-    index: 0,
-};
 
 /// The variables of most stores.
 pub(crate) const VARS: &[u8] =
@@ -34,6 +29,9 @@ pub(crate) const VARS: &[u8] =
 /// The variables of others.
 pub(crate) const SHORT: &[u8] = b"proc p(data x: Node, bool b) logic set S: Node";
 
+/// A store over these without cells.
+pub(crate) const NONE: &str = "store\nvar x null\nvar b false\nvar S {}\nend\n";
+
 /// A tree of two nodes and a leaf, of which `q` is the right node, and two lists of one node each.
 pub(crate) const TREE_LINES: &str =
     "store\nvar x 4\nvar y 5\nvar p null\nvar t 1\nvar q 3\nvar S {4 5}\nvar U {}\nvar b false\nvar v true\n\
@@ -41,18 +39,25 @@ pub(crate) const TREE_LINES: &str =
         cell 3 Tree:node up=1 left=null right=null red=false\ncell 4 Node next=null prev=null mark=false\n\
         cell 5 Node next=null prev=null mark=false\nend\n";
 
-fn typed_of(alloc: Global, text: &[u8]) -> Result<Typed, TextStop>
+/// The tree of a text.
+fn tree_of(alloc: Global, text: &[u8]) -> Result<Program, TextStop>
     requires { length text.now < u32.MAX }
 {
     let list = lex(alloc, text)?;
-    let program = parse(alloc, &list)?;
+    parse(alloc, &list)
+}
+
+fn typed_of(alloc: Global, text: &[u8]) -> Result<Typed, TextStop>
+    requires { length text.now < u32.MAX }
+{
+    let program = tree_of(alloc, text)?;
     check_types(alloc, &program)
 }
 
 /// The text of a program of these types whose procedure has these variables and this precondition.
-fn text_of(alloc: Global, vars: &[u8], pre: &[u8]) -> Result<Vec<u8>, AllocError> {
+fn text_of(alloc: Global, types: &[u8], vars: &[u8], pre: &[u8]) -> Result<Vec<u8>, AllocError> {
     let mut text = Writer::new(alloc);
-    text.push_all(TYPES);
+    text.push_all(types);
     text.push_all(vars);
     text.push_all(b" pre [");
     text.push_all(pre);
@@ -60,21 +65,23 @@ fn text_of(alloc: Global, vars: &[u8], pre: &[u8]) -> Result<Vec<u8>, AllocError
     text.finish()
 }
 
-/// The program of these types whose procedure has these variables and this precondition.
-pub(crate) fn program_of(alloc: Global, vars: &[u8], pre: &str) -> Result<Typed, Fail> {
-    let text = text_of(alloc, vars, pre.as_bytes())?;
+/// The program of a text; want of memory where it is long.
+fn short_program_of(alloc: Global, text: &[u8]) -> Result<Typed, TextStop> {
     if text.len() > 1000 {
-        return Err("a long program".into());
+        return Err(TextStop::from(AllocError));
     }
-    Ok(typed_of(alloc, &text)?)
+    typed_of(alloc, text)
 }
 
-/// The variables of the procedure of such a program.
-pub(crate) fn vars_of(typed: &Typed) -> Result<&VarTable, Fail> {
-    match typed.vars(0) {
-        Some(vars) => Ok(vars),
-        None => Err("no procedure".into()),
-    }
+/// The program of these types whose procedure has these variables and this precondition.
+pub(crate) fn program_of(
+    alloc: Global,
+    types: &[u8],
+    vars: &[u8],
+    pre: &str,
+) -> Result<Typed, TextStop> {
+    let text = text_of(alloc, types, vars, pre.as_bytes())?;
+    short_program_of(alloc, &text)
 }
 
 /// The precondition of the procedure of such a program.
@@ -87,29 +94,14 @@ pub(crate) fn store_of(
     alloc: Global,
     types: &TypeTable,
     vars: &VarTable,
-    text: &str,
+    text: &[u8],
 ) -> Result<Store, Fail>
     ensures { IfOk result (Fits types.now vars.now) }
 {
-    let text = text.as_bytes();
     if text.len() > 1000 {
         return Err("a long text".into());
     }
-    let store = read_store(alloc, types, vars, text)?;
     read_stores_fit();
+    let store = read_store(alloc, types, vars, text)?;
     Ok(store)
-}
-
-/// Whether this is written of the store.
-pub(crate) fn is_text(
-    alloc: Global,
-    types: &TypeTable,
-    vars: &VarTable,
-    store: &Store,
-    want: &str,
-) -> Result<bool, AllocError>
-    requires { Fits types.now vars.now store.now }
-{
-    let text = store_text(alloc, types, vars, store)?;
-    Ok(text.as_slice() == want.as_bytes())
 }

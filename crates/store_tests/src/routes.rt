@@ -1,74 +1,99 @@
 //! Long routes, and copies.
 
-use crate::programs::{pre_of, program_of};
+use crate::programs::{NONE, SHORT};
+use crate::questions::{Question, answers};
 use plain_data::{Boxed, Items};
 use std::alloc::{AllocError, Global};
 use std::test::Fail;
 use store_core::Route;
 use store_logic::Assertion;
 
-/// How many steps a long route has.
-const LONG: u32 = 100_000;
+/// What a level puts around a route.
+#[derive(Clone, Copy)]
+enum Level {
+    /// A step behind it.
+    Before,
+    /// A step in front of it.
+    Behind,
+    /// A step as another choice.
+    Or,
+    /// Any number of repetitions.
+    Star,
+}
+
+/// How many rounds of levels a long route has, and the levels of a round: steps one after the other, grouped from the left or from the right,
+/// or choices and repetitions within one another, on both sides.
+static SHAPES: &[(u32, &[Level])] = &[
+    (100_000, &[Level::Before]),
+    (100_000, &[Level::Behind]),
+    (
+        50_000,
+        &[Level::Star, Level::Or, Level::Star, Level::Behind],
+    ),
+];
 
 fn step(alloc: Global) -> Result<Route, AllocError> {
     Ok(Route::Down(Items::from_slice(alloc, b"next")?))
 }
 
-fn then(alloc: Global, first: Route, second: Route) -> Result<Route, AllocError> {
-    let first = Boxed::new(alloc, first)?;
-    Ok(Route::Then(first, Boxed::new(alloc, second)?))
-}
-
-/// Repetitions of a route, or a step.
-fn rounds_or_step(alloc: Global, round: Route) -> Result<Route, AllocError> {
-    let rounds = Boxed::new(alloc, Route::Star(Boxed::new(alloc, round)?))?;
-    Ok(Route::Or(rounds, Boxed::new(alloc, step(alloc)?)?))
-}
-
-/// How the steps of a long route stand.
-#[derive(Clone, Copy)]
-enum Shape {
-    /// One after the other, grouped from the left.
-    Left,
-    /// One after the other, grouped from the right.
-    Right,
-    /// Choices and repetitions within one another, on both sides.
-    Nest,
+/// The route, and a step.
+fn with_step(alloc: Global, route: Route) -> Result<(Boxed<Route>, Boxed<Route>), AllocError> {
+    let route = Boxed::new(alloc, route)?;
+    Ok((route, Boxed::new(alloc, step(alloc)?)?))
 }
 
 /// The route with one more level around it.
-fn grown(alloc: Global, shape: Shape, level: u32, route: Route) -> Result<Route, AllocError> {
-    match shape {
-        Shape::Left => then(alloc, route, step(alloc)?),
-        Shape::Right => then(alloc, step(alloc)?, route),
-        Shape::Nest if level % 2 == 0 => rounds_or_step(alloc, route),
-        Shape::Nest => {
-            let rounds = Route::Star(Boxed::new(alloc, route)?);
-            then(alloc, step(alloc)?, rounds)
-        }
+fn grown(alloc: Global, level: Level, route: Route) -> Result<Route, AllocError> {
+    if matches!(level, Level::Star) {
+        return Ok(Route::Star(Boxed::new(alloc, route)?));
+    }
+    let (route, step) = with_step(alloc, route)?;
+    match level {
+        Level::Before => Ok(Route::Then(route, step)),
+        Level::Behind => Ok(Route::Then(step, route)),
+        Level::Or | Level::Star => Ok(Route::Or(route, step)),
     }
 }
 
-/// A route of many levels.
-fn long(alloc: Global, shape: Shape) -> Result<Route, AllocError> {
-    let mut route = step(alloc)?;
-    for level in 0..LONG {
-        route = grown(alloc, shape, level, route)?;
+/// The route with a level around it for each of the list, in order.
+fn round(alloc: Global, shape: &[Level], route: Route) -> Result<Route, AllocError> {
+    let mut route = route;
+    for level in shape {
+        route = grown(alloc, *level, route)?;
     }
     Ok(route)
 }
 
-/// Whether the route and its copy end with two parts one after the other. Both are dropped.
+/// A route of so many rounds of levels.
+fn long(alloc: Global, rounds: u32, shape: &[Level]) -> Result<Route, AllocError> {
+    let mut route = step(alloc)?;
+    for _ in 0..rounds {
+        route = round(alloc, shape, route)?;
+    }
+    Ok(route)
+}
+
+/// Whether a route ends with two parts one after the other.
+fn is_row(route: &Route) -> bool {
+    matches!(route, Route::Then(_, _))
+}
+
+/// Whether the route and its copy end with two parts one after the other. The copy is dropped.
 fn is_copied(alloc: Global, route: &Route) -> Result<bool, AllocError> {
     let copy = route.copy(alloc)?;
-    Ok(matches!(route, Route::Then(_, _)) && matches!(&copy, Route::Then(_, _)))
+    Ok(is_row(route) && is_row(&copy))
+}
+
+/// Whether a long route is copied. Both are dropped.
+fn is_long_copied(alloc: Global, rounds: u32, shape: &[Level]) -> Result<bool, AllocError> {
+    let route = long(alloc, rounds, shape)?;
+    is_copied(alloc, &route)
 }
 
 #[test]
 fn long_routes_are_copied_and_dropped(rt: HostRuntime) -> Result<(), Fail> {
-    for shape in [Shape::Left, Shape::Right, Shape::Nest] {
-        let route = long(rt.alloc(), shape)?;
-        assert!(rt; is_copied(rt.alloc(), &route)?);
+    for (rounds, shape) in SHAPES {
+        assert!(rt; is_long_copied(rt.alloc(), *rounds, shape)?);
     }
     Ok(())
 }
@@ -87,13 +112,13 @@ fn form_of(route: &Route) -> u32 {
     }
 }
 
-/// The form of the copy of a route; `None` for what isn't one.
-fn form_of_copy(alloc: Global, route: &str) -> Result<Option<u32>, Fail> {
-    let typed = program_of(alloc, b"proc p(data x: Node)", route)?;
-    match pre_of(&typed) {
-        Some(Assertion::Walk(_, route, _)) => Ok(Some(form_of(&route.copy(alloc)?))),
-        _ => Ok(None),
-    }
+/// The form of the copy of the route that an assertion walks; 0 where it walks none.
+pub(crate) fn form_of_copy(alloc: Global, assertion: &Assertion) -> Result<u32, AllocError> {
+    let Assertion::Walk(_, route, _) = assertion else {
+        return Ok(0);
+    };
+    let copy = route.copy(alloc)?;
+    Ok(form_of(&copy))
 }
 
 /// Each form without parts, and its number.
@@ -111,8 +136,8 @@ static FORMS: &[(&str, u32)] = &[
 #[test]
 fn every_form_of_route_is_copied(rt: HostRuntime) -> Result<(), Fail> {
     for (route, form) in FORMS {
-        let copied = form_of_copy(rt.alloc(), route)?;
-        assert!(rt; copied == Some(*form), "{route}");
+        let is_so = answers(rt.alloc(), SHORT, route, NONE, Question::Copied(*form))?;
+        assert!(rt; is_so, "{route}");
     }
     Ok(())
 }
