@@ -1,7 +1,9 @@
 //! Where procedures begin and end. Of an end an answer has the line alone.
 
+ghost use Rattle.std.specs.Prelude.{◌<◌, length};
+
 use pale_parse::parse;
-use pale_syntax::Declaration;
+use pale_syntax::{Declaration, Program};
 use pale_text::{TextStop, lex};
 use std::alloc::Global;
 use std::test::Fail;
@@ -36,13 +38,20 @@ fn are_at(declarations: &[Declaration], wanted: &[[u32; 4]]) -> bool {
     left.is_empty()
 }
 
+/// The tree of a text.
+fn tree_of(alloc: Global, text: &[u8]) -> Result<Program, TextStop>
+    requires { length text.now < u32.MAX }
+{
+    let list = lex(alloc, text)?;
+    parse(alloc, &list)
+}
+
 /// Whether the procedures of a text begin and end there.
 fn begin_and_end(alloc: Global, text: &[u8], wanted: &[[u32; 4]]) -> Result<bool, TextStop> {
     if text.len() >= 1000 {
         return Ok(false);
     }
-    let list = lex(alloc, text)?;
-    let program = parse(alloc, &list)?;
+    let program = tree_of(alloc, text)?;
     Ok(are_at(program.declarations.as_slice(), wanted))
 }
 

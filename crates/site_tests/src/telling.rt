@@ -1,20 +1,20 @@
 //! What is told of the sites of a text's triples.
 
 ghost use Rattle.std.specs.Prelude.{◌<◌, length};
+ghost use Rattle.store_logic.specs.Fits.{KnowsVars};
 ghost use Rattle.pale_typed.specs.Fitting.{ProgramFits};
 
 use crate::spelled::{push_formula, push_number};
-use hoare_triples::split;
-use pale_parse::parse;
-use pale_text::{TextStop, lex};
+use pale_text::TextStop;
 use pale_typed::Typed;
-use pale_types::check_types;
 use plain_writer::Writer;
 use pred_transform::triple_formula;
 use site_list::{SiteList, sites};
 use std::alloc::{AllocError, Global};
+use store_core::{TypeTable, VarTable};
 use store_exec::{Cause, Triple};
 use tree_encode::{Layout, VariantList};
+use whole_program::{WholeProgram, read_program};
 use ws2s_core::Formula;
 
 /// What is told of each site.
@@ -70,8 +70,26 @@ fn push_told(out: &mut Writer, told: Told, formula: &Formula) {
     }
 }
 
-/// The formulas of all sites, up to the first number that no site has.
-fn push_formulas(
+/// What is told of the site with this number; false where no site has it.
+fn push_site(
+    alloc: Global,
+    out: &mut Writer,
+    told: Told,
+    l: &Layout<'_>,
+    t: &Triple,
+    site: u32,
+) -> Result<bool, AllocError> {
+    match triple_formula(alloc, l, t, site)? {
+        Some(formula) => {
+            push_told(out, told, &formula);
+            Ok(true)
+        }
+        None => Ok(false),
+    }
+}
+
+/// What is told of each site, up to the first number that no site has.
+fn push_sites(
     alloc: Global,
     out: &mut Writer,
     told: Told,
@@ -79,15 +97,42 @@ fn push_formulas(
     t: &Triple,
 ) -> Result<(), AllocError> {
     for site in 0..u32::MAX {
-        let Some(formula) = triple_formula(alloc, l, t, site)? else {
+        if !push_site(alloc, out, told, l, t, site)? {
             return Ok(());
-        };
-        push_told(out, told, &formula);
+        }
     }
     Ok(())
 }
 
-/// No slots are spared for cells that the code makes: no formula depends on that.
+/// What is told of a triple over the layout of its variables.
+fn push_over(
+    alloc: Global,
+    out: &mut Writer,
+    told: Told,
+    l: &Layout<'_>,
+    t: &Triple,
+) -> Result<(), AllocError> {
+    match told {
+        Told::Place => {
+            push_places(out, &sites(alloc, l, t)?);
+            Ok(())
+        }
+        Told::Size | Told::Formula => push_sites(alloc, out, told, l, t),
+    }
+}
+
+/// The layout of a triple's variables. No slots are spared for cells that the code makes: no formula depends on that.
+fn layout_of<'a>(
+    alloc: Global,
+    types: &'a TypeTable,
+    vars: &'a VarTable,
+) -> Result<Layout<'a>, AllocError>
+    requires { KnowsVars types.now vars.now }
+{
+    Layout::new(alloc, types, vars, &VariantList::new(alloc))
+}
+
+/// What is told of a triple, and a mark behind it.
 fn push_triple(
     alloc: Global,
     out: &mut Writer,
@@ -100,28 +145,41 @@ fn push_triple(
     let Some(vars) = typed.vars(t.proc) else {
         return Ok(());
     };
-    let spares = VariantList::new(alloc);
-    let l = Layout::new(alloc, typed.types(), vars, &spares)?;
-    match told {
-        Told::Place => push_places(out, &sites(alloc, &l, t)?),
-        Told::Size | Told::Formula => push_formulas(alloc, out, told, &l, t)?,
-    }
+    let l = layout_of(alloc, typed.types(), vars)?;
+    let pushed = push_over(alloc, out, told, &l, t);
     out.push(b';');
+    pushed
+}
+
+/// What is told of each triple of a program.
+fn push_triples(
+    alloc: Global,
+    out: &mut Writer,
+    told: Told,
+    whole: &WholeProgram,
+) -> Result<(), TextStop>
+    requires { ProgramFits whole.now.typed }
+{
+    for t in whole.triples.as_slice() {
+        push_triple(alloc, out, told, &whole.typed, t)?;
+    }
     Ok(())
+}
+
+/// Writes what is told of the sites of each triple of a text.
+fn push_text(alloc: Global, out: &mut Writer, text: &[u8], told: Told) -> Result<(), TextStop>
+    requires { length text.now < u32.MAX }
+{
+    let whole = read_program(alloc, text)?;
+    push_triples(alloc, out, told, &whole)
 }
 
 /// What is told of the sites of each triple of a text.
 fn told_of(alloc: Global, text: &[u8], told: Told) -> Result<Vec<u8>, TextStop>
     requires { length text.now < u32.MAX }
 {
-    let list = lex(alloc, text)?;
-    let program = parse(alloc, &list)?;
-    let typed = check_types(alloc, &program)?;
-    let triples = split(alloc, &typed)?;
     let mut out = Writer::new(alloc);
-    for t in triples.as_slice() {
-        push_triple(alloc, &mut out, told, &typed, t)?;
-    }
+    push_text(alloc, &mut out, text, told)?;
     Ok(out.finish()?)
 }
 

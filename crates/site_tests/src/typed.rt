@@ -1,13 +1,10 @@
 //! Programs with all forms, and their typed trees.
 
-ghost use Rattle.std.specs.Prelude.{◌<◌, length};
-
-use pale_parse::parse;
-use pale_text::{TextStop, lex};
-use pale_typed::{Typed, TypedProc};
-use pale_types::check_types;
+use pale_text::TextStop;
+use pale_typed::Typed;
 use std::alloc::{AllocError, Global};
 use std::test::Fail;
+use whole_program::read_program;
 
 /// A procedure with each form of statement, over a type and a predicate.
 static TEXT: &[u8] = b"type N = { data f: N; }
@@ -105,17 +102,17 @@ Cell(Path(Path { var: VarId(4), fields: Items { held: [FieldId { ty: TypeId(0), 
 index: 1 }] } })))), Do(10, Assign(Path { var: VarId(4), fields: Items { held: [] } \
 }, Cell(Null)))] } }";
 
-fn read(alloc: Global, text: &[u8]) -> Result<Typed, TextStop>
-    requires { length text.now < u32.MAX }
-{
-    let list = lex(alloc, text)?;
-    let program = parse(alloc, &list)?;
-    check_types(alloc, &program)
+/// How a program's first procedure is printed for debugging.
+fn shown(alloc: Global, typed: &Typed) -> Result<String, AllocError> {
+    match typed.proc(0) {
+        Some(procedure) => format!(in alloc; "{procedure:?}"),
+        None => Ok(String::new(alloc)),
+    }
 }
 
-/// Whether this is how a procedure is printed for debugging.
-fn is_shown(alloc: Global, procedure: &TypedProc, want: &str) -> Result<bool, AllocError> {
-    let tree = format!(in alloc; "{procedure:?}")?;
+/// Whether this is how a program's first procedure is printed for debugging.
+fn is_shown(alloc: Global, typed: &Typed, want: &str) -> Result<bool, TextStop> {
+    let tree = shown(alloc, typed)?;
     Ok(tree.as_str() == want)
 }
 
@@ -124,11 +121,8 @@ fn is_tree(alloc: Global, text: &[u8], want: &str) -> Result<bool, TextStop> {
     if text.len() >= 1000 {
         return Ok(false);
     }
-    let typed = read(alloc, text)?;
-    match typed.proc(0) {
-        Some(procedure) => Ok(is_shown(alloc, procedure, want)?),
-        None => Ok(false),
-    }
+    let whole = read_program(alloc, text)?;
+    is_shown(alloc, &whole.typed, want)
 }
 
 #[test]
