@@ -47,94 +47,107 @@ b = ! a ;
 
 const GEN_LINE: &str = "gen 0 procedures 1 triples 1 valid 1 invalid 0 limit 0\n";
 
-/// A call that ended: its status, what it wrote, and how often its source and its sink failed.
-#[derive(Drop)]
-struct Ended {
-    status: Status,
-    written: Vec<u8>,
-    read_faults: u64,
-    write_faults: u64,
+/// What a call has to come to.
+#[derive(Clone, Copy)]
+enum Want<'a> {
+    /// This is written, with this status.
+    Output(Status, &'a [u8]),
+    /// The same, and the source wasn't asked for what it can't give.
+    Unasked(Status, &'a [u8]),
+    /// Where a read failed nothing is written, and else this.
+    Read(&'a [u8]),
+    /// Where the write with this number failed a front of this is written, nothing where it is the first, and else all of it, with
+    /// this status.
+    Write(u64, Status, &'a [u8]),
 }
 
-/// Calls the program with these words on this text, where the reads and the writes with these numbers fail.
-fn call(
+/// Whether a front of the output is written, nothing where the first write failed.
+fn is_front(written: &[u8], output: &[u8], write: u64) -> bool {
+    output.starts_with(written) && (write > 1 || written.is_empty())
+}
+
+/// Whether a call came to what is wanted, by its status and what is left of its source and its sink.
+fn is_wanted(status: Status, source: &MemSource, sink: &MemSink, want: Want<'_>) -> bool {
+    let written = sink.written();
+    match want {
+        Want::Output(wanted, output) => status == wanted && written == output,
+        Want::Unasked(wanted, output) => {
+            source.faults() == 0 && status == wanted && written == output
+        }
+        Want::Read(_) if source.faults() > 0 => status == Status::ReadFault && written.is_empty(),
+        Want::Read(output) => status == Status::Good && written == output,
+        Want::Write(write, _, output) if sink.faults() > 0 => {
+            status == Status::WriteFault && is_front(written, output, write)
+        }
+        Want::Write(_, wanted, output) => status == wanted && written == output,
+    }
+}
+
+/// A source of a text whose reads with these numbers fail.
+fn source_of(alloc: Global, text: &[u8], reads: &[u64]) -> Result<MemSource, AllocError> {
+    let text = Vec::from_slice(alloc, text)?;
+    Ok(MemSource::new(text, Vec::from_slice(alloc, reads)?))
+}
+
+/// Whether a call with these words on a source comes to what is wanted, where the writes with these numbers fail.
+fn comes_from(
+    alloc: Global,
+    words: &Vec<String>,
+    source: &mut MemSource,
+    writes: &[u64],
+    want: Want<'_>,
+) -> Result<bool, AllocError> {
+    let mut sink = MemSink::new(alloc, Vec::from_slice(alloc, writes)?);
+    let status = pale_main(alloc, words, source, &mut sink, &PassList::new(alloc));
+    Ok(is_wanted(status, source, &sink, want))
+}
+
+/// The same on a text, where the reads with these numbers fail.
+fn comes_of(
+    alloc: Global,
+    words: &Vec<String>,
+    text: &[u8],
+    reads: &[u64],
+    writes: &[u64],
+    want: Want<'_>,
+) -> Result<bool, AllocError> {
+    let mut source = source_of(alloc, text, reads)?;
+    comes_from(alloc, words, &mut source, writes, want)
+}
+
+/// Whether a call with the words of a line on a text comes to what is wanted, where the reads and the writes with these numbers
+/// fail.
+fn comes(
     alloc: Global,
     line: &str,
     text: &[u8],
     reads: &[u64],
     writes: &[u64],
-) -> Result<Ended, AllocError> {
+    want: Want<'_>,
+) -> Result<bool, AllocError> {
     let words = words_of(alloc, line)?;
-    let mut source = MemSource::new(
-        Vec::from_slice(alloc, text)?,
-        Vec::from_slice(alloc, reads)?,
-    );
-    let mut sink = MemSink::new(alloc, Vec::from_slice(alloc, writes)?);
-    let passes = PassList::new(alloc);
-    let status = pale_main(alloc, &words, &mut source, &mut sink, &passes);
-    Ok(Ended {
-        status,
-        written: Vec::from_slice(alloc, sink.written())?,
-        read_faults: source.faults(),
-        write_faults: sink.faults(),
-    })
-}
-
-impl Ended {
-    fn is(&self, status: Status, report: &[u8]) -> bool {
-        self.status == status && self.written.as_slice() == report
-    }
-}
-
-/// Whether nothing is written where this read fails, and the output where it isn't made.
-fn fails_at_read(alloc: Global, line: &str, output: &str, read: u64) -> Result<bool, AllocError> {
-    let ended = call(alloc, line, NEG.as_bytes(), &[read], &[])?;
-    if ended.read_faults > 0 {
-        Ok(ended.is(Status::ReadFault, b""))
-    } else {
-        Ok(ended.is(Status::Good, output.as_bytes()))
-    }
+    comes_of(alloc, &words, text, reads, writes, want)
 }
 
 #[test]
 fn a_failed_read_leaves_nothing_written(rt: HostRuntime) -> Result<(), Fail> {
     for (line, output) in [("pale check", NEG_REPORT), ("pale format", NEG_SPELLING)] {
         for read in 1..4 {
-            assert!(rt; fails_at_read(rt.alloc(), line, output, read)?, "{line}");
+            let want = Want::Read(output.as_bytes());
+            assert!(rt;
+                comes(rt.alloc(), line, NEG.as_bytes(), &[read], &[], want)?,
+                "{line}"
+            );
         }
     }
     Ok(())
 }
 
-/// Whether `gen` ends well over a source that would fail, which it doesn't ask.
-fn asks_no_source(alloc: Global) -> Result<bool, AllocError> {
-    let ended = call(alloc, "pale gen", b"", &[1], &[])?;
-    Ok(ended.read_faults == 0 && ended.is(Status::Good, GEN_LINE.as_bytes()))
-}
-
 #[test]
 fn gen_asks_no_source(rt: HostRuntime) -> Result<(), Fail> {
-    assert!(rt; asks_no_source(rt.alloc())?);
+    let want = Want::Unasked(Status::Good, GEN_LINE.as_bytes());
+    assert!(rt; comes(rt.alloc(), "pale gen", b"", &[1], &[], want)?);
     Ok(())
-}
-
-/// Whether a front of the output is written where this write fails, nothing where it is the first, and all where it isn't made.
-fn fails_at_write(
-    alloc: Global,
-    (line, text): (&str, &str),
-    output: &[u8],
-    good: Status,
-    write: u64,
-) -> Result<bool, AllocError> {
-    let ended = call(alloc, line, text.as_bytes(), &[], &[write])?;
-    if ended.write_faults == 0 {
-        return Ok(ended.is(good, output));
-    }
-    Ok(
-        ended.status == Status::WriteFault
-            && output.starts_with(&ended.written)
-            && (write > 1 || ended.written.is_empty()),
-    )
 }
 
 #[test]
@@ -146,7 +159,8 @@ fn a_failed_write_leaves_a_front(rt: HostRuntime) -> Result<(), Fail> {
         ("pale format", "proc p() {", refused, Status::Text),
     ] {
         for write in 1..4 {
-            let is_so = fails_at_write(rt.alloc(), (line, text), output.as_bytes(), good, write)?;
+            let want = Want::Write(write, good, output.as_bytes());
+            let is_so = comes(rt.alloc(), line, text.as_bytes(), &[], &[write], want)?;
             assert!(rt; is_so, "{line}");
         }
     }
@@ -159,46 +173,42 @@ proc q() post [false] { }
 proc r() { }
 ";
 
-/// The reports of the triples and the totals.
-static THREE_REPORTS: &[&str] = &[
-    "triple 1 p line 1 valid\n",
-    "triple 2 q line 2 invalid post line 2\nstore\nend\n",
-    "triple 3 r line 3 valid\n",
-    "triples 3 valid 2 invalid 1 limit 0\n",
+/// The number of a write that fails, the reports that are written before it, and how the call ends.
+static REPORTS: &[(u64, &str, Status)] = &[
+    (1, "", Status::WriteFault),
+    (2, "triple 1 p line 1 valid\n", Status::WriteFault),
+    (
+        3,
+        "triple 1 p line 1 valid\ntriple 2 q line 2 invalid post line 2\nstore\nend\n",
+        Status::WriteFault,
+    ),
+    (
+        4,
+        "triple 1 p line 1 valid\ntriple 2 q line 2 invalid post line 2\nstore\nend\ntriple 3 r line 3 valid\n",
+        Status::WriteFault,
+    ),
+    (
+        5,
+        "triple 1 p line 1 valid\ntriple 2 q line 2 invalid post line 2\nstore\nend\ntriple 3 r line 3 valid\n\
+            triples 3 valid 2 invalid 1 limit 0\n",
+        Status::Bad,
+    ),
 ];
-
-/// The first of the reports, so many.
-fn first_reports(alloc: Global, count: usize) -> Result<String, AllocError> {
-    let mut text = String::new(alloc);
-    for report in THREE_REPORTS.iter().take(count) {
-        text.push_str(report)?;
-    }
-    Ok(text)
-}
-
-/// Whether exactly so many reports are written where the write after them fails.
-fn stops_after(alloc: Global, count: usize) -> Result<bool, AllocError> {
-    let ended = call(
-        alloc,
-        "pale check",
-        THREE.as_bytes(),
-        &[],
-        &[(count as u64).saturating_add(1)],
-    )?;
-    let wanted = first_reports(alloc, count)?;
-    let status = if count < THREE_REPORTS.len() {
-        Status::WriteFault
-    } else {
-        Status::Bad
-    };
-    Ok(ended.is(status, wanted.as_bytes()))
-}
 
 /// A reader sees how far a long run is.
 #[test]
 fn each_report_is_written_at_once(rt: HostRuntime) -> Result<(), Fail> {
-    for count in 0..5 {
-        assert!(rt; stops_after(rt.alloc(), count)?, "{count}");
+    for (write, reports, status) in REPORTS {
+        let want = Want::Output(*status, reports.as_bytes());
+        let is_so = comes(
+            rt.alloc(),
+            "pale check",
+            THREE.as_bytes(),
+            &[],
+            &[*write],
+            want,
+        )?;
+        assert!(rt; is_so, "{write}");
     }
     Ok(())
 }
@@ -206,9 +216,9 @@ fn each_report_is_written_at_once(rt: HostRuntime) -> Result<(), Fail> {
 /// Whether the first two reports on a generated module are written where the third write fails.
 fn module_stops(alloc: Global) -> Result<bool, AllocError> {
     let text = gen_program(alloc, 5)?;
-    let ended = call(alloc, "pale check", text.as_slice(), &[], &[3])?;
-    let wanted = b"triple 1 push0 line 4 valid\ntriple 2 reverse1 line 11 valid\n";
-    Ok(ended.is(Status::WriteFault, wanted))
+    let reports = b"triple 1 push0 line 4 valid\ntriple 2 reverse1 line 11 valid\n";
+    let want = Want::Output(Status::WriteFault, reports);
+    comes(alloc, "pale check", text.as_slice(), &[], &[3], want)
 }
 
 #[test]
