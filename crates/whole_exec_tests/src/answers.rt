@@ -4,10 +4,7 @@ ghost use Rattle.std.specs.Prelude.{◌≡◌, ◌<◌, length, slice_get, optio
 ghost use Rattle.store_core.specs.Stores.{Fits, IsFresh};
 ghost use Rattle.pale_typed.specs.Fitting.{ProgramFits};
 
-use pale_parse::parse;
-use pale_text::{TextStop, lex};
 use pale_typed::Typed;
-use pale_types::check_types;
 use plain_writer::Writer;
 use routing_expr::well_formed;
 use routing_walks::well_formed_stores_are_fresh;
@@ -16,6 +13,7 @@ use store_core::{CellId, Store, Value, VarTable};
 use store_exec::Cause;
 use store_text::{read_store, read_stores_fit};
 use whole_exec::{Answer, run_procedure};
+use whole_program::read_program;
 
 /// What is to come of a run.
 #[derive(Clone, Copy)]
@@ -24,15 +22,6 @@ pub(crate) enum Want {
     Fail(Cause, u32),
     /// With this told of the store.
     Exit(&'static str),
-}
-
-fn typed_of(alloc: Global, text: &[u8]) -> Result<Typed, TextStop>
-    requires { length text.now < u32.MAX }
-    ensures { IfOk result (λ typed. ProgramFits typed) }
-{
-    let list = lex(alloc, text)?;
-    let program = parse(alloc, &list)?;
-    check_types(alloc, &program)
 }
 
 /// Whether the store is well-formed, and so fresh.
@@ -69,34 +58,6 @@ fn started(
     requires steps { steps < 1000001 }
 {
     run_procedure(alloc, program, number, store, steps)
-}
-
-/// What comes of a run; `None` where a text is refused or the store isn't well-formed.
-fn answer_of(
-    alloc: Global,
-    text: &[u8],
-    number: u32,
-    store: &[u8],
-    steps: u32,
-) -> Result<Option<Answer>, AllocError>
-    requires text { length text.now < u32.MAX }
-    requires store { length store.now < u32.MAX }
-{
-    read_stores_fit();
-    let Ok(program) = typed_of(alloc, text) else {
-        return Ok(None);
-    };
-    let Some(vars) = program.vars(number) else {
-        return Ok(None);
-    };
-    let Ok(read) = read_store(alloc, program.types(), vars, store) else {
-        return Ok(None);
-    };
-    let fresh = is_fresh(alloc, &program, vars, &read)?;
-    if !fresh || read.next() > 1_000_000 || steps > 1_000_000 {
-        return Ok(None);
-    }
-    Ok(Some(started(alloc, &program, number, vars, read, steps)?))
 }
 
 /// What the digits of a `u32` stand for.
@@ -174,6 +135,50 @@ fn is_wanted(alloc: Global, answer: &Answer, want: Want) -> Result<bool, AllocEr
     }
 }
 
+/// Whether this comes of a run from the store.
+fn comes_from(
+    alloc: Global,
+    program: &Typed,
+    number: u32,
+    vars: &VarTable,
+    store: Store,
+    steps: u32,
+    want: Want,
+) -> Result<bool, AllocError>
+    requires program { ProgramFits program.now }
+    requires vars { option_map (λ entry. entry.vars) (slice_get program.now.procs number) ≡ Some vars.now }
+    requires fits { Fits program.now.types vars.now store }
+{
+    let fresh = is_fresh(alloc, program, vars, &store)?;
+    if !fresh || store.next() > 1_000_000 || steps > 1_000_000 {
+        return Ok(false);
+    }
+    let answer = started(alloc, program, number, vars, store, steps)?;
+    is_wanted(alloc, &answer, want)
+}
+
+/// Whether this comes of a run of a procedure of the program.
+fn comes_over(
+    alloc: Global,
+    program: &Typed,
+    number: u32,
+    store: &[u8],
+    steps: u32,
+    want: Want,
+) -> Result<bool, AllocError>
+    requires program { ProgramFits program.now }
+    requires store { length store.now < u32.MAX }
+{
+    read_stores_fit();
+    let Some(vars) = program.vars(number) else {
+        return Ok(false);
+    };
+    let Ok(read) = read_store(alloc, program.types(), vars, store) else {
+        return Ok(false);
+    };
+    comes_from(alloc, program, number, vars, read, steps, want)
+}
+
 /// Whether this comes of a run of the procedure with this number from the store, for so many steps at most.
 pub(crate) fn comes(
     alloc: Global,
@@ -186,8 +191,8 @@ pub(crate) fn comes(
     if text.len() >= 100_000 || store.len() >= 100_000 {
         return Ok(false);
     }
-    match answer_of(alloc, text, number, store, steps)? {
-        Some(answer) => is_wanted(alloc, &answer, want),
-        None => Ok(false),
-    }
+    let Ok(whole) = read_program(alloc, text) else {
+        return Ok(false);
+    };
+    comes_over(alloc, &whole.typed, number, store, steps, want)
 }
