@@ -30,11 +30,20 @@ fn last(parts: &mut Vec<Formula>) -> Formula {
     }
 }
 
-/// What `and` or `not` makes of the last parts, and `front` of two with the last one in front.
+/// The conjunction of a copy of the part and the part.
+fn twice(alloc: Global, part: Formula) -> Result<Formula, AllocError> {
+    let copy = part.copy(alloc)?;
+    Formula::and(alloc, copy, part)
+}
+
+/// What `and`, `not` or `twice` makes of the last parts, and `front` of two with the last one in front.
 fn joined(alloc: Global, word: &[u8], parts: &mut Vec<Formula>) -> Result<Formula, AllocError> {
     let one = last(parts);
     if word == b"not".as_slice() {
         return Formula::not(alloc, one);
+    }
+    if word == b"twice".as_slice() {
+        return twice(alloc, one);
     }
     let other = last(parts);
     if word == b"and".as_slice() {
@@ -74,15 +83,21 @@ fn add(alloc: Global, text: &str, level: u32, parts: &mut Vec<Formula>) -> Resul
 /// A text, with the first level for which it stands and the one past the last.
 pub type Part = (&'static str, u32, u32);
 
-/// The formula of texts one after the other: `=3` is `Single 3`, `.3` is `Root 3`, `3<4` is `Sub 3 4`, `304` is `Succ0 3 4`, `314`
-/// is `Succ1 3 4`, and `and`, `front`, `not` and `x3`, which is `Ex2 3`, stand after their parts.
-pub fn tower(alloc: Global, texts: &[Part]) -> Result<Formula, AllocError> {
-    let mut parts = Vec::new(alloc);
+/// Puts what texts make at their levels behind the parts.
+fn add_each(alloc: Global, texts: &[Part], parts: &mut Vec<Formula>) -> Result<(), AllocError> {
     for (text, from, to) in texts {
         for level in *from..*to {
-            add(alloc, text, level, &mut parts)?;
+            add(alloc, text, level, parts)?;
         }
     }
+    Ok(())
+}
+
+/// The formula of texts one after the other: `=3` is `Single 3`, `.3` is `Root 3`, `3<4` is `Sub 3 4`, `304` is `Succ0 3 4`, `314`
+/// is `Succ1 3 4`, and `and`, `front`, `not`, `twice` and `x3`, which is `Ex2 3`, stand after their parts.
+pub fn tower(alloc: Global, texts: &[Part]) -> Result<Formula, AllocError> {
+    let mut parts = Vec::new(alloc);
+    add_each(alloc, texts, &mut parts)?;
     Ok(last(&mut parts))
 }
 
@@ -93,12 +108,22 @@ pub fn formula(alloc: Global, text: &str) -> Result<Formula, AllocError> {
     Ok(last(&mut parts))
 }
 
+/// Whether both formulas have one number.
+fn are_one(
+    alloc: Global,
+    interner: &mut Interner,
+    one: &Formula,
+    other: &Formula,
+) -> Result<bool, AllocError> {
+    let first = intern(alloc, interner, one)?;
+    let second = intern(alloc, interner, other)?;
+    Ok(first == second)
+}
+
 /// Whether both formulas are the same.
 pub fn are_equal(alloc: Global, one: &Formula, other: &Formula) -> Result<bool, AllocError> {
     let mut interner = Interner::new(alloc);
-    let first = intern(alloc, &mut interner, one)?;
-    let second = intern(alloc, &mut interner, other)?;
-    Ok(first == second)
+    are_one(alloc, &mut interner, one, other)
 }
 
 /// Whether the formula is that of the text.

@@ -1,6 +1,7 @@
 //! What is found of a formula, without its tree.
 
 ghost use Rattle.std.specs.Prelude.{◌≤◌};
+ghost use Rattle.gta_keep.specs.Holding.{HasNoTables};
 
 use bdd_nodes::{RefList, Shelf, TableId};
 use plain_data::Items;
@@ -40,7 +41,35 @@ fn tracks(alloc: Global, is_weighed: bool) -> Result<TrackList, AllocError> {
     }
 }
 
-/// What is found of a formula under the plain guide on a shelf of so many nodes, and the number of the next table there.
+/// What is found of a formula under a guide on a shelf.
+fn found_under(
+    alloc: Global,
+    f: &Formula,
+    g: &Guide,
+    is_weighed: bool,
+    shelf: &mut Shelf,
+) -> Result<Found, AllocError>
+    requires { HasNoTables shelf.old }
+{
+    let weigh = tracks(alloc, is_weighed)?;
+    Ok(outcome_of(decide(alloc, f, g, &weigh, shelf)?))
+}
+
+/// What is found of a formula under the plain guide on a shelf, and the number of the next table there.
+fn decided_on(
+    alloc: Global,
+    f: &Formula,
+    is_weighed: bool,
+    shelf: &mut Shelf,
+) -> Result<(Found, TableId), AllocError>
+    requires { HasNoTables shelf.old }
+{
+    let g = Guide::plain(alloc)?;
+    let found = found_under(alloc, f, &g, is_weighed, shelf)?;
+    Ok((found, shelf.add_table(RefList::new(alloc))?))
+}
+
+/// The same on a shelf of so many nodes.
 pub fn decided(
     alloc: Global,
     f: &Formula,
@@ -50,9 +79,6 @@ pub fn decided(
     requires some { 1 ≤ limit }
     requires small { limit ≤ 16000000 }
 {
-    let g = Guide::plain(alloc)?;
-    let weigh = tracks(alloc, is_weighed)?;
     let mut shelf = Shelf::open(alloc, limit)?;
-    let outcome = outcome_of(decide(alloc, f, &g, &weigh, &mut shelf)?);
-    Ok((outcome, shelf.add_table(RefList::new(alloc))?))
+    decided_on(alloc, f, is_weighed, &mut shelf)
 }

@@ -49,35 +49,66 @@ fn folding(alloc: Global) -> Result<Pass, AllocError> {
     Ok(Pass::new(name(alloc, "fold_constants")?, run))
 }
 
-/// Whether the list makes the second text's formula of the first text's.
-fn makes(alloc: Global, passes: &PassList, text: &str, wanted: &str) -> Result<bool, AllocError> {
+/// A pass.
+#[derive(Clone, Copy)]
+enum Named {
+    Flattening,
+    Dropping,
+    Folding,
+}
+
+fn pass(alloc: Global, named: Named) -> Result<Pass, AllocError> {
+    match named {
+        Named::Flattening => flattening(alloc),
+        Named::Dropping => dropping(alloc),
+        Named::Folding => folding(alloc),
+    }
+}
+
+/// Puts the passes behind those of the list.
+fn add_each(alloc: Global, list: &[Named], passes: &mut PassList) -> Result<(), AllocError> {
+    for named in list {
+        passes.add(pass(alloc, *named)?)?;
+    }
+    Ok(())
+}
+
+/// What the list makes of a text's formula.
+fn made(alloc: Global, passes: &PassList, text: &str) -> Result<Formula, AllocError> {
     let whole = formula(alloc, text)?;
-    let made = apply(alloc, passes, &whole)?;
+    apply(alloc, passes, &whole)
+}
+
+/// Whether the list makes the second text's formula of the first text's.
+fn list_makes(
+    alloc: Global,
+    passes: &PassList,
+    text: &str,
+    wanted: &str,
+) -> Result<bool, AllocError> {
+    let made = made(alloc, passes, text)?;
     is(alloc, &made, wanted)
 }
 
+/// Whether these passes, one after the other, make the second text's formula of the first text's.
+fn makes(alloc: Global, list: &[Named], text: &str, wanted: &str) -> Result<bool, AllocError> {
+    let mut passes = PassList::new(alloc);
+    add_each(alloc, list, &mut passes)?;
+    list_makes(alloc, &passes, text, wanted)
+}
+
+/// Passes, and what they make of a formula.
+static LISTS: &[(&[Named], &str, &str)] = &[
+    (&[Named::Flattening, Named::Dropping], "=0 not not x1", "=0"),
+    // Folding makes an unused quantifier, which a pass after it leaves out and a pass before it doesn't.
+    (&[Named::Dropping, Named::Folding], "=0 1<1 and x1", "=0 x1"),
+    (&[], "=0 not not x1", "=0 not not x1"),
+];
+
 #[test]
 fn passes_run_one_after_the_other(rt: HostRuntime) -> Result<(), Fail> {
-    let mut passes = PassList::new(rt.alloc());
-    passes.add(flattening(rt.alloc())?)?;
-    passes.add(dropping(rt.alloc())?)?;
-    assert!(rt; makes(rt.alloc(), &passes, "=0 not not x1", "=0")?);
-    Ok(())
-}
-
-/// Folding makes an unused quantifier, which a pass after it leaves out and a pass before it doesn't.
-#[test]
-fn the_last_pass_runs_last(rt: HostRuntime) -> Result<(), Fail> {
-    let mut passes = PassList::new(rt.alloc());
-    passes.add(dropping(rt.alloc())?)?;
-    passes.add(folding(rt.alloc())?)?;
-    assert!(rt; makes(rt.alloc(), &passes, "=0 1<1 and x1", "=0 x1")?);
-    Ok(())
-}
-
-#[test]
-fn no_passes_change_nothing(rt: HostRuntime) -> Result<(), Fail> {
-    let passes = PassList::new(rt.alloc());
-    assert!(rt; makes(rt.alloc(), &passes, "=0 not not x1", "=0 not not x1")?);
+    for (list, text, wanted) in LISTS {
+        assert!(rt; makes(rt.alloc(), list, text, wanted)?, "{text}");
+    }
     Ok(())
 }

@@ -35,18 +35,22 @@ fn are_first(tracks: &[Track], count: u32) -> bool {
     next == count
 }
 
-/// Whether both formulas are those of these texts.
-fn are(alloc: Global, made: &Reduced, holds: &str, breaks: &str) -> Result<bool, AllocError> {
-    Ok(is(alloc, &made.holds, holds)? && is(alloc, &made.breaks, breaks)?)
+/// Whether the reduction is as the row has it.
+fn is_as(alloc: Global, made: &Reduced, (_, free, holds, breaks): &Row) -> Result<bool, Fail> {
+    Ok(
+        are_first(made.free.as_slice(), *free)
+            && is(alloc, &made.holds, holds)?
+            && is(alloc, &made.breaks, breaks)?,
+    )
 }
 
 /// Whether a text is reduced as the row has it.
-fn is_row(alloc: Global, (text, free, holds, breaks): &Row) -> Result<bool, Fail> {
-    if text.len() >= 1000 {
+fn is_row(alloc: Global, row: &Row) -> Result<bool, Fail> {
+    if row.0.len() >= 1000 {
         return Ok(false);
     }
-    let made = reduced(alloc, text)?;
-    Ok(are_first(made.free.as_slice(), *free) && are(alloc, &made, holds, breaks)?)
+    let made = reduced(alloc, row.0)?;
+    is_as(alloc, &made, row)
 }
 
 #[test]

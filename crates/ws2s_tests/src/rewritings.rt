@@ -150,16 +150,21 @@ fn is_made(
     is(alloc, &made, if wanted == "stays" { text } else { wanted })
 }
 
+/// Whether each rewriter's answer for the row's formula is as the row has it.
+fn are_made(alloc: Global, row: &Row, whole: &Formula) -> Result<bool, AllocError> {
+    let [text, flat, used, folded, narrow] = *row;
+    Ok(
+        is_made(alloc, Rewriting::Flat, text, whole, flat)?
+            && is_made(alloc, Rewriting::Used, text, whole, used)?
+            && is_made(alloc, Rewriting::Folded, text, whole, folded)?
+            && is_made(alloc, Rewriting::Narrow, text, whole, narrow)?,
+    )
+}
+
 /// Whether each rewriter's answer is as the row has it.
 fn holds(alloc: Global, row: &Row) -> Result<bool, AllocError> {
-    let [text, flat, used, folded, narrow] = *row;
-    let whole = formula(alloc, text)?;
-    Ok(
-        is_made(alloc, Rewriting::Flat, text, &whole, flat)?
-            && is_made(alloc, Rewriting::Used, text, &whole, used)?
-            && is_made(alloc, Rewriting::Folded, text, &whole, folded)?
-            && is_made(alloc, Rewriting::Narrow, text, &whole, narrow)?,
-    )
+    let whole = formula(alloc, row[0])?;
+    are_made(alloc, row, &whole)
 }
 
 #[test]

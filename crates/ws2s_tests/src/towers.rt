@@ -3,6 +3,7 @@
 use crate::formulas::{LEVELS, Part, Rewriting, are_equal, rewritten, tower};
 use std::alloc::{AllocError, Global};
 use std::test::Fail;
+use ws2s_core::Formula;
 
 /// `Single 0` alone.
 const ONE: &[Part] = &[("=0", 0, 1)];
@@ -64,6 +65,18 @@ static TOWERS: &[(Rewriting, &[Part], &[Part])] = &[
     ),
 ];
 
+/// What the rewriter makes of a tower.
+fn made(alloc: Global, by: Rewriting, texts: &[Part]) -> Result<Formula, AllocError> {
+    let whole = tower(alloc, texts)?;
+    rewritten(alloc, by, &whole)
+}
+
+/// Whether the formula is the tower.
+fn is_tower(alloc: Global, formula: &Formula, texts: &[Part]) -> Result<bool, AllocError> {
+    let wanted = tower(alloc, texts)?;
+    are_equal(alloc, formula, &wanted)
+}
+
 /// Whether the rewriter makes the one tower of the other.
 fn makes(
     alloc: Global,
@@ -71,10 +84,8 @@ fn makes(
     texts: &[Part],
     wanted: &[Part],
 ) -> Result<bool, AllocError> {
-    let whole = tower(alloc, texts)?;
-    let made = rewritten(alloc, by, &whole)?;
-    let wanted = tower(alloc, wanted)?;
-    are_equal(alloc, &made, &wanted)
+    let made = made(alloc, by, texts)?;
+    is_tower(alloc, &made, wanted)
 }
 
 #[test]
